@@ -1,0 +1,10 @@
+pub mod Tags
+pub mod Ends
+pub mod Places
+pub mod Children
+pub mod Rows
+pub mod Nan
+pub mod Halving
+pub mod Commute
+pub mod Magnitude
+pub mod Exact

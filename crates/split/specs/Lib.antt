@@ -1,0 +1,5 @@
+pub mod Split
+pub mod Row
+pub mod Midpoint
+pub mod Exact
+pub mod Magnitude

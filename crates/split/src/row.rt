@@ -1,0 +1,104 @@
+// A tagged row by value: its refinement edge and its two children (Algorithm 1).
+
+ghost use mathlib.Core.Path.{_≡_};
+ghost use Rattle.split.specs.Split.{far, corners, number, after, three};
+ghost use Rattle.split.specs.Row.{tagOf, cornersOf, readTag, edgeOf, below, deeper, firstOf, secondOf};
+
+pub struct Row {
+    pub v0: u32,
+    pub v1: u32,
+    pub v2: u32,
+    pub v3: u32,
+    pub tag: u32,
+    pub parent: u32,
+    pub child: u32,
+    pub depth: u32,
+}
+
+// The two ends of an edge.
+pub struct Ends {
+    pub small: u32,
+    pub large: u32,
+}
+
+fn across(r: Row) -> u32
+    ensures { λ v. ⌜ v ≡ far (tagOf r) (cornersOf r) ⌝ }
+{
+    if r.tag == 1 {
+        return r.v1;
+    }
+    if r.tag == 2 {
+        return r.v2;
+    }
+    r.v3
+}
+
+pub fn edge(r: Row) -> Ends
+    ensures { λ e. ⌜ e ≡ edgeOf r ⌝ }
+{
+    let a = r.v0;
+    let b = across(r);
+    if a < b {
+        Ends { small: a, large: b }
+    } else {
+        Ends { small: b, large: a }
+    }
+}
+
+fn next_depth(d: u32) -> u32
+    ensures { λ e. ⌜ e ≡ deeper d ⌝ }
+{
+    if d < 4294967295 { d + 1 } else { d }
+}
+
+fn next_tag(t: u32) -> u32
+    ensures { λ e. ⌜ e ≡ number (after three (readTag t)) ⌝ }
+{
+    if t == 1 {
+        return 3;
+    }
+    if t == 2 {
+        return 1;
+    }
+    2
+}
+
+// The child of row number `own` that has these four vertices.
+fn child_at(r: Row, own: u32, v0: u32, v1: u32, v2: u32, v3: u32) -> Row
+    ensures { λ c. ⌜ c ≡ below r own (corners v0 v1 v2 v3) ⌝ }
+{
+    Row {
+        v0,
+        v1,
+        v2,
+        v3,
+        tag: next_tag(r.tag),
+        parent: own,
+        child: 0,
+        depth: next_depth(r.depth),
+    }
+}
+
+pub fn first(r: Row, own: u32, m: u32) -> Row
+    ensures { λ c. ⌜ c ≡ firstOf r own m ⌝ }
+{
+    if r.tag == 1 {
+        return child_at(r, own, r.v0, m, r.v2, r.v3);
+    }
+    if r.tag == 2 {
+        return child_at(r, own, r.v0, r.v1, m, r.v3);
+    }
+    child_at(r, own, r.v0, r.v1, r.v2, m)
+}
+
+pub fn second(r: Row, own: u32, m: u32) -> Row
+    ensures { λ c. ⌜ c ≡ secondOf r own m ⌝ }
+{
+    if r.tag == 1 {
+        return child_at(r, own, r.v1, m, r.v2, r.v3);
+    }
+    if r.tag == 2 {
+        return child_at(r, own, r.v1, r.v2, m, r.v3);
+    }
+    child_at(r, own, r.v1, r.v2, r.v3, m)
+}

@@ -1,0 +1,9 @@
+// The worked cases of document 01 that are run, with the cases at the edge of each rule; the expected lines are in `stdout`.
+mod midpoints;
+mod show;
+mod splits;
+
+fn main() {
+    splits::run();
+    midpoints::run();
+}
