@@ -1,1 +1,13 @@
 pub mod Join
+pub mod Step
+pub mod Roots
+pub mod Every
+pub mod First
+pub mod Blocking
+pub mod Shallow
+pub mod Levels
+pub mod Forced
+pub mod History
+pub mod Rounds
+pub mod LeafSum
+pub mod Theory

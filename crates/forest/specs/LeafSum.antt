@@ -1,4 +1,5 @@
 -- The leaf sum (01, "Closure"): under each root, one half to the power of each leaf's depth, summed over the leaves, is one, stated as whole numbers over 2 ^ 60.
+use mathlib.Core.Path.{_≡_}
 use mathlib.Core.Bool.{Bool, true, false}
 use mathlib.Core.List.{List, [], _∷_, _++_}
 use Prim.Native.Nat.{ℕ, zero, suc, _+_, _-_, _^_}
@@ -17,3 +18,8 @@ weight p = 2 ^ (60 - length p)
 unfoldable pub total : List (List Side) → ℕ
 total [] = 0
 total (p ∷ ps) = weight p + total ps
+
+-- p is in the mesh, split or not: it is the root or a child of a split element
+abbrev pub Reached : (List Side → Bool) → List Side → Type 0
+Reached split [] = Unit
+Reached split (s ∷ p) = split p ≡ true

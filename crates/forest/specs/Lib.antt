@@ -2,5 +2,10 @@ pub mod Element
 pub mod Start
 pub mod Generation
 pub mod Invariant
+pub mod Level
 pub mod Closed
+pub mod Union
+pub mod History
+pub mod Shallow
+pub mod Rounds
 pub mod LeafSum

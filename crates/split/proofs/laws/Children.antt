@@ -19,12 +19,12 @@ Low c m s g p = at (child s g c m) p ≡ at c (source s p)
 abbrev High : {A : Type 0} → Corners A → A → Side → Tag → ℕ → Type 0
 High c m s g p = at (child s g c m) p ≡ at c p
 
-module _ {A : Type 0} (c : Corners A) (m : A) where
-  pub far-at : (g : Tag) → at c (number g) ≡ far g c
-  far-at one = refl
-  far-at two = refl
-  far-at three = refl
+pub far-at : {A : Type 0} (c : Corners A) (g : Tag) → at c (number g) ≡ far g c
+far-at c one = refl
+far-at c two = refl
+far-at c three = refl
 
+module _ {A : Type 0} (c : Corners A) (m : A) where
   -- ---- place by place
 
   pub at-new : (s : Side) (g : Tag) → at (child s g c m) (number g) ≡ m
@@ -145,7 +145,7 @@ module _ {A : Type 0} (n : ℕ) (c : Corners A) (m : A) (s : Side) (g : Tag) (lo
 pub not-both : {A : Type 0} (n : ℕ) (c : Corners A) (m : A) (s : Side) (g : Tag) → number g ≤ n → n ≤ 3 → Distinct n c → (Holds n c m → ⊥)
     → Holds n (child s g c m) (at c 0) → Holds n (child s g c m) (far g c) → ⊥
 not-both n c m left g low high d fresh a b =
-    lacks n c m left g low high d (λ e. fresh (record { place = number g; inside = low; is = sym e })) (rw (far-at c m g) b)
+    lacks n c m left g low high d (λ e. fresh (record { place = number g; inside = low; is = sym e })) (rw (far-at c g) b)
 not-both n c m right g low high d fresh a b = lacks n c m right g low high d (λ e. fresh (record { place = 0; inside = omega arith; is = sym e })) a
 
 -- every vertex of a child is the parent's or the midpoint
