@@ -1,0 +1,25 @@
+// The index: for a sequence of keys that only grows, the last place of each key and, from each place, the place before it with the same key.
+// It lies in one lent table: the heads, one for each key below `base`, and from `base` on the links, one for each place.
+
+ghost use mathlib.Core.Path.{_≡_};
+ghost use Rattle.chain.specs.Chain.{pushed};
+
+// Appends place i with its key. What does not fit changes nothing.
+pub fn push(index: &mut [u32], base: usize, i: usize, key: usize)
+    ensures { λ _. ⌜ now (index .exit) ≡ pushed (now (index .entry)) base i key ⌝ }
+{
+    if base <= key {
+        return;
+    }
+    if index.len() <= base {
+        return;
+    }
+    if index.len() - base <= i {
+        return;
+    }
+    if 4294967295 <= i {
+        return;
+    }
+    index[base + i] = index[key];
+    index[key] = (i + 1) as u32;
+}

@@ -1,0 +1,41 @@
+// The widths of the three tables, named once, and the room that lent tables give.
+
+ghost use mathlib.Core.Path.{_≡_};
+ghost use Prim.Native.Nat.{min};
+ghost use Rattle.tables.specs.Layout.{roomOf};
+
+// Numbers that a vertex takes in the coordinate table and in the vertex table, and that an element takes.
+pub const POINT: usize = 3;
+
+pub const RECORD: usize = 2;
+
+pub const ROW: usize = 8;
+
+pub const MOST_VERTICES: usize = 20000;
+
+pub const MOST_ROWS: usize = 100000;
+
+// The second number of an initial vertex.
+pub const INITIAL: u32 = 4294967295;
+
+pub struct Counts {
+    pub vertices: usize,
+    pub rows: usize,
+}
+
+fn least(a: usize, b: usize) -> usize
+    ensures { λ r. ⌜ r ≡ min a b ⌝ }
+{
+    if a < b { a } else { b }
+}
+
+// The room of tables of these lengths.
+pub fn room(points: usize, records: usize, rows: usize) -> Counts
+    ensures { λ r. ⌜ r ≡ roomOf points records rows ⌝ }
+{
+    let held = least(points / POINT, records / RECORD);
+    Counts {
+        vertices: least(MOST_VERTICES, held),
+        rows: least(MOST_ROWS, rows / ROW),
+    }
+}

@@ -1,0 +1,5 @@
+pub mod layout;
+pub mod point;
+pub mod record;
+pub mod row;
+pub mod show;
