@@ -1,4 +1,5 @@
 // The midpoint rule on halves, subnormals, both zeros, the largest coordinate and what is not finite.
+use crate::bound::bound;
 use crate::show;
 use libc::STDOUT_FILENO;
 use split::point::Point;
@@ -13,9 +14,9 @@ fn line(x: f64, y: f64) {
     show::end_line();
 }
 
-// 2 ^ 1000, the largest coordinate that opening takes, and what lies past every number.
+// The largest coordinate, and what lies past every number.
 fn far_out() {
-    let most = f64::from_bits(0x7e70000000000000);
+    let most = bound().last;
     line(most, most);
     line(most, -most);
     line(most, 1.0);

@@ -2,11 +2,25 @@
 use libc::STDOUT_FILENO;
 use split::row::Ends;
 use split::row::Row;
-ghost use mathlib.Core.Path.{_≡_};
 
 pub fn number(n: u32) {
     io::write_all(STDOUT_FILENO, b" ");
     io::print_decimal(STDOUT_FILENO, n as u64);
+}
+
+pub fn count(n: usize) {
+    io::write_all(STDOUT_FILENO, b" ");
+    io::print_decimal(STDOUT_FILENO, n as u64);
+}
+
+// All numbers of a table on one line.
+pub fn table(t: &[u32]) {
+    let mut i = 0usize;
+    while i < t.len() {
+        number(t[i]);
+        i += 1;
+    }
+    end_line();
 }
 
 pub fn end_line() {

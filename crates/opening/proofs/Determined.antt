@@ -1,0 +1,18 @@
+-- Two outcomes that meet the promise of opening are equal: the answer, and each of the three lent tables. `Learnt` is the promise itself, as the check reads it off the function's contract.
+use mathlib.Core.Path.{_≡_, sym, ap, _∙_}
+use denote.Ref.{now}
+use Rattle.tables.specs.Mesh.{Lent}
+use Rattle.opening.proofs.open.Reads as opening
+
+pub open-determined : (κs : _) (a : _) (r r' : _) (s s' : _) → opening.Learnt κs a r s → opening.Learnt κs a r' s' → r ≡ r'
+open-determined κs a r r' s s' p q = p .answers ∙ sym (q .answers)
+
+-- the lent tables are the third to the fifth parameter
+pub open-points-determined : (κs : _) (a : _) (r r' : _) (s s' : _) → opening.Learnt κs a r s → opening.Learnt κs a r' s' → now (s .1 .1 .0) ≡ now (s' .1 .1 .0)
+open-points-determined κs a r r' s s' p q = ap (λ (t : Lent). t .points) (p .leaves ∙ sym (q .leaves))
+
+pub open-records-determined : (κs : _) (a : _) (r r' : _) (s s' : _) → opening.Learnt κs a r s → opening.Learnt κs a r' s' → now (s .1 .1 .1 .0) ≡ now (s' .1 .1 .1 .0)
+open-records-determined κs a r r' s s' p q = ap (λ (t : Lent). t .records) (p .leaves ∙ sym (q .leaves))
+
+pub open-rows-determined : (κs : _) (a : _) (r r' : _) (s s' : _) → opening.Learnt κs a r s → opening.Learnt κs a r' s' → now (s .1 .1 .1 .1 .0) ≡ now (s' .1 .1 .1 .1 .0)
+open-rows-determined κs a r r' s s' p q = ap (λ (t : Lent). t .rows) (p .leaves ∙ sym (q .leaves))

@@ -1,0 +1,17 @@
+use lib.Ieee.{nanBits}
+use Rattle.opening.proofs.laws.Usable.{usable-by-order}
+use Rattle.opening.proofs.coordinates.is_usable.Statement.{statement}
+use Rattle.opening.proofs.coordinates.is_usable.Tie as tie
+
+float-from-bits-most : tie.Need-float-from-bits-most
+unfolding nanBits
+float-from-bits-most c = tt
+
+returns : tie.Need-returns
+returns c = rw (usable-by-order, c .if1 .taken)
+
+returns-2 : tie.Need-returns-2
+returns-2 c = rw (usable-by-order, c .if1 .left)
+
+pub is-usable-spec : {M : Type 1} → statement M
+is-usable-spec = tie.close (tie.spec float-from-bits-most returns returns-2)

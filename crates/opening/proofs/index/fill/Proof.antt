@@ -1,0 +1,61 @@
+-- `opening::index::fill` meets its contract. The loop's invariant: the first i slots are in the index, and the colours are untouched. Assumes nothing.
+use Prim.Native.Nat.{_≤_, _-_}
+use native.Mathlib.Omega.{arith}
+use borrow.Author.Needs.{needs}
+use lib.ListN.{length}
+use Rattle.opening.proofs.laws.Indexing.{Filling, filling-start, filling-push, filling-ready, filling-painted, filling-length}
+use Rattle.opening.proofs.index.fill.Statement.{statement}
+use Rattle.opening.proofs.index.fill.Tie as tie
+
+abbrev Inv-loop : tie.InvT-loop
+Inv-loop elements vertices scratch₀ n i₀ scratch i = (i ≤ length elements) × Filling elements i scratch
+
+abbrev μ-loop : tie.MeasureT-loop
+μ-loop elements vertices scratch₀ n i₀ scratch i = length elements - i
+
+loop-holds : tie.Need-loop-holds Inv-loop μ-loop
+loop-holds c = (search needs, filling-start (search needs))
+
+mul-wide : tie.Need-mul-wide Inv-loop μ-loop
+mul-wide c = search needs
+
+shared-slice-read-wide : tie.Need-shared-slice-read-wide Inv-loop μ-loop
+shared-slice-read-wide c = search needs
+
+wide-requires : tie.Need-wide-requires Inv-loop μ-loop
+wide-requires c κs = search needs
+
+push-requires : tie.Need-push-requires Inv-loop μ-loop
+push-requires c κs = search needs
+
+add-i : tie.Need-add-i Inv-loop μ-loop
+add-i c = search needs
+
+loop-less : tie.Need-loop-less Inv-loop μ-loop
+loop-less c = search needs
+
+loop-again : tie.Need-loop-again Inv-loop μ-loop
+loop-again c = (search needs, filling-push (c .before .before .before .before .before .before .before .before .before .before .pre .0) (c .before .before .before .before .before .before .before .loop .inv .1) (c .before .before .before .before .before .before .loop-test .taken) (c .before .before .before .wide .ensures) (c .before .before .push .ensures))
+
+same-length : tie.Need-same-length Inv-loop μ-loop
+same-length c = filling-length (c .before .before .before .before .pre .1) (c .before .loop .inv .1)
+
+returns : tie.Need-returns Inv-loop μ-loop
+returns c = (filling-ready (c .before .loop .inv .1) (omega arith), filling-painted (c .before .loop .inv .1))
+
+pub fill-spec : {M : Type 1} → statement M
+fill-spec =
+    tie.close
+    (tie.spec
+    Inv-loop
+    μ-loop
+    loop-holds
+    mul-wide
+    shared-slice-read-wide
+    wide-requires
+    push-requires
+    add-i
+    loop-less
+    loop-again
+    same-length
+    returns)

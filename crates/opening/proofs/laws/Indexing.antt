@@ -1,0 +1,55 @@
+-- The scratch table while slots are pushed: the first i of them are in the index, and the colours are untouched.
+use mathlib.Core.Path.{_≡_, refl, sym, _∙_, ap}
+use mathlib.Core.Logic.{inl, inr}
+use mathlib.Core.List.{List}
+use Prim.Native.Nat.{ℕ, _+_, _<_}
+use native.Mathlib.Omega.{arith}
+use lib.ListN.{length, getD, replicate, length-replicate, getD-replicate, List·getD-eq-default}
+use Rattle.split.proofs.laws.Places.{le-or-lt}
+use Rattle.chain.specs.Chain.{Indexed, pushed}
+use Rattle.chain.proofs.laws.Pushed.{pushed-length, pushed-beyond}
+use Rattle.chain.proofs.laws.Index.{indexed-none, indexed-push-one}
+use Rattle.opening.specs.Colours.{colours}
+use Rattle.opening.specs.Scratch.{linksAt, coloursAt, scratchLength, slot, Plain, Blank, Ready, Painted}
+
+-- the first i slots are pushed
+pub record Filling (E : List ℕ) (i : ℕ) (scratch : List ℕ) : Type 0 where
+  pub size : length scratch ≡ scratchLength
+  pub index : Indexed (slot E) i linksAt scratch
+  pub clear : (u : ℕ) → getD scratch (coloursAt + u) 0 ≡ 0
+
+replicate-zero : (n i : ℕ) → _≡_ {A = ℕ} (getD (replicate n 0) i 0) 0
+replicate-zero n i = elim (le-or-lt n i) [ inl h ↦ List·getD-eq-default (replicate n 0) 0 {n = i} (rw length-replicate h) | inr h ↦ getD-replicate n i 0 0 h ]
+
+-- none pushed, and one more
+blank : (E scratch : List ℕ) (n : ℕ) → scratch ≡ replicate n 0 → n ≡ scratchLength → Filling E 0 scratch
+blank E scratch n b e =
+    let size : length scratch ≡ n = ap length b ∙ length-replicate n 0 in
+    record {
+      size = size ∙ e;
+      index = indexed-none (slot E) linksAt scratch (omega arith) (λ v h. rw b (replicate-zero n v));
+      clear = λ u. rw b (replicate-zero n (coloursAt + u));
+    }
+
+pub filling-start : {E scratch : List ℕ} → Blank scratch → Filling E 0 scratch
+filling-start {E} {scratch} b = blank E scratch scratchLength b refl
+
+pub filling-push : {vertices : ℕ} {E scratch next : List ℕ} {i key : ℕ} → Plain vertices E → Filling E i scratch → i < length E → key ≡ slot E i → next ≡ pushed scratch linksAt i key → Filling E (i + 1) next
+filling-push {E = E} {scratch} {i = i} x f h k e =
+    rw (e, k)
+    (record {
+      size = pushed-length _ _ _ _ ∙ f .size;
+      index = indexed-push-one (f .index) (omega (arith, x .there i h)) (omega arith) (omega arith);
+      clear = λ u. pushed-beyond scratch linksAt i (slot E i) (coloursAt + u) (omega arith) ∙ f .clear u;
+    })
+
+-- all pushed
+pub filling-ready : {E scratch : List ℕ} {i : ℕ} → Filling E i scratch → i ≡ length E → Ready E scratch
+filling-ready f e = record { size = f .size; index = rw (← e) (f .index) }
+
+pub filling-painted : {E scratch : List ℕ} {i : ℕ} → Filling E i scratch → Painted E 0 scratch
+unfolding colours
+filling-painted f = record { colour = f .clear; small = λ u h. absurd (omega arith) }
+
+pub filling-length : {E old scratch : List ℕ} {i : ℕ} → Blank old → Filling E i scratch → length scratch ≡ length old
+filling-length {E} {old} b f = f .size ∙ sym (blank E old scratchLength b refl .size)

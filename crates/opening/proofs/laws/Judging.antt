@@ -1,0 +1,152 @@
+-- From the verdicts of the parts to the verdict of all tests: a refusal stays whatever comes later, and what passed hands on to the rest.
+use mathlib.Core.Path.{_≡_, refl, sym, _∙_}
+use mathlib.Core.Bool.{Bool, true, false, _||_}
+use mathlib.Core.List.{List}
+use Prim.Native.Nat.{ℕ, _/_}
+use native.Mathlib.Omega.{arith}
+use lib.ListN.{length, replicate, length-replicate}
+use lib.Ieee.{Float}
+use Rattle.opening.specs.declared.answer.Found.{Found}
+use Rattle.opening.specs.declared.answer.Found.the-variants.{At, Nowhere}
+use Rattle.opening.specs.declared.answer.Verdict.{Verdict}
+use Rattle.opening.specs.declared.answer.Verdict.the-variants.{Refused, Passed}
+use Rattle.opening.specs.Search.{first}
+use Rattle.opening.specs.Causes.{wrongInput, wrongLent, noRoom, unusable, missing, double, same, third}
+use Rattle.opening.specs.Opening.{when, at, fitting, plain, late, judged}
+use Rattle.opening.specs.Scratch.{Blank, Plain, Coloured, Judged, Settled}
+use Rattle.opening.proofs.laws.Passed.{plain-passed, roomy-passed}
+use Rattle.opening.proofs.laws.Verdicts.{garish-last}
+
+clash : {X : Type 0} {n p : ℕ} {r : Verdict} → r ≡ Refused n p → r ≡ Passed → X
+clash a b = let z : _≡_ {A = ℕ} 0 1 = cc in absurd (omega arith)
+
+left-false : (a b : Bool) → (a || b) ≡ false → a ≡ false
+left-false true b h = h
+left-false false b h = refl
+
+-- ---- one test
+
+when-passed : (b : Bool) (n : ℕ) (next : Verdict) → when b n next ≡ Passed → (b ≡ false) × (next ≡ Passed)
+when-passed true n next e = clash refl e
+when-passed false n next e = (refl, e)
+
+when-refused : (b : Bool) (n : ℕ) (next next' : Verdict) (k p : ℕ) → (next ≡ Refused k p → next' ≡ Refused k p) → when b n next ≡ Refused k p → when b n next' ≡ Refused k p
+when-refused true n next next' k p h e = e
+when-refused false n next next' k p h e = h e
+
+at-passed : (f : Found) (n : ℕ) (next : Verdict) → at f n next ≡ Passed → (f ≡ Nowhere) × (next ≡ Passed)
+at-passed (At q) n next e = clash refl e
+at-passed Nowhere n next e = (refl, e)
+
+at-refused : (f : Found) (n : ℕ) (next next' : Verdict) (k p : ℕ) → (next ≡ Refused k p → next' ≡ Refused k p) → at f n next ≡ Refused k p → at f n next' ≡ Refused k p
+at-refused (At q) n next next' k p h e = e
+at-refused Nowhere n next next' k p h e = h e
+
+-- ---- tests 1 and 2, and tests 3 to 5
+
+-- lengths that passed
+record Lengths (f e p r w : ℕ) : Type 0 where
+  input : wrongInput f e || wrongLent p r w ≡ false
+  room : noRoom (f / 3) (e / 4) p r w ≡ false
+
+module _ (f e p r w : ℕ) where
+  lengths-passed : fitting f e p r w Passed ≡ Passed → Lengths f e p r w
+  unfolding fitting
+  lengths-passed h = let (a, b) = when-passed (wrongInput f e || wrongLent p r w) 1 (when (noRoom (f / 3) (e / 4) p r w) 2 Passed) h in record { input = a; room = when-passed (noRoom (f / 3) (e / 4) p r w) 2 Passed b .0 }
+
+  lengths-next : Lengths f e p r w → (next : Verdict) → fitting f e p r w next ≡ next
+  unfolding fitting
+  lengths-next l next = rw (l .input, l .room)
+
+  lengths-refused : (next : Verdict) (k q : ℕ) → fitting f e p r w Passed ≡ Refused k q → fitting f e p r w next ≡ Refused k q
+  unfolding fitting
+  lengths-refused next k q =
+      when-refused (wrongInput f e || wrongLent p r w) 1 _ _ k q (when-refused (noRoom (f / 3) (e / 4) p r w) 2 Passed next k q (λ h. clash h refl))
+
+-- coordinates and vertex numbers that passed
+record Numbers (F : List Float) (E : List ℕ) : Type 0 where
+  usable : first (unusable F) (length F / 3) ≡ Nowhere
+  there : first (missing (length F / 3) E) (length E / 4) ≡ Nowhere
+  single : first (double E) (length E / 4) ≡ Nowhere
+
+module _ (F : List Float) (E : List ℕ) where
+  numbers-passed : plain F E Passed ≡ Passed → Numbers F E
+  unfolding plain
+  numbers-passed h =
+      let (a, b) = at-passed (first (unusable F) (length F / 3)) 3 (at (first (missing (length F / 3) E) (length E / 4)) 4 (at (first (double E) (length E / 4)) 5 Passed)) h in
+      let (c, d) = at-passed (first (missing (length F / 3) E) (length E / 4)) 4 (at (first (double E) (length E / 4)) 5 Passed) b in
+      record { usable = a; there = c; single = at-passed (first (double E) (length E / 4)) 5 Passed d .0 }
+
+  numbers-next : Numbers F E → (next : Verdict) → plain F E next ≡ next
+  unfolding plain
+  numbers-next n next = rw (n .usable, n .there, n .single)
+
+  numbers-refused : (next : Verdict) (k q : ℕ) → plain F E Passed ≡ Refused k q → plain F E next ≡ Refused k q
+  unfolding plain
+  numbers-refused next k q =
+      at-refused (first (unusable F) (length F / 3)) 3 _ _ k q
+      (at-refused (first (missing (length F / 3) E) (length E / 4)) 4 _ _ k q (at-refused (first (double E) (length E / 4)) 5 Passed next k q (λ h. clash h refl)))
+
+-- ---- tests 6 to 8
+
+pub judged-refused : {vertices n p : ℕ} {E scratch : List ℕ} → late E vertices ≡ Refused n p → length scratch ≡ 440000 → Judged vertices E (Refused n p) scratch
+judged-refused e s = record { answer = sym e; size = s; painted = λ h. clash refl h }
+
+pub judged-coloured : {vertices : ℕ} {E scratch : List ℕ} {f : Found} {r : Verdict} → first (same E) (length E / 4) ≡ Nowhere → first (third E) (length E / 4) ≡ Nowhere
+    → Coloured vertices E f scratch → r ≡ at f 8 Passed → Judged vertices E r scratch
+judged-coloured {vertices} {E} {scratch} {f} a b c e =
+    record {
+      answer = e ∙ rw (c .answer) (sym (garish-last E vertices a b));
+      size = c .size;
+      painted = λ h. c .painted (at-passed f 8 Passed (sym e ∙ h) .0);
+    }
+
+-- ---- all tests
+
+-- over any number, so that no list of 440,000 zeros is ever written out
+sized : (n : ℕ) (l : List ℕ) → l ≡ replicate n 0 → length l ≡ n
+sized n l e = rw (e, length-replicate)
+
+pub blank-size : {scratch : List ℕ} → Blank scratch → length scratch ≡ 440000
+blank-size {scratch} b = sized 440000 scratch b
+
+module _ (F : List Float) (E : List ℕ) (points records rows : ℕ) where
+  pub settled-lengths : {n p : ℕ} {scratch : List ℕ} → fitting (length F) (length E) points records rows Passed ≡ Refused n p → length scratch ≡ 440000
+      → Settled F E points records rows (Refused n p) scratch
+  unfolding judged
+  settled-lengths {n} {p} e s = record { answer = sym (lengths-refused (length F) (length E) points records rows _ n p e); size = s; storable = λ h. clash refl h }
+
+  pub settled-numbers : {n p : ℕ} {scratch : List ℕ} → fitting (length F) (length E) points records rows Passed ≡ Passed → plain F E Passed ≡ Refused n p → length scratch ≡ 440000
+      → Settled F E points records rows (Refused n p) scratch
+  unfolding judged
+  settled-numbers {n} {p} l e s =
+      record {
+        answer = sym (rw (lengths-next (length F) (length E) points records rows (lengths-passed (length F) (length E) points records rows l)) (numbers-refused F E _ n p e));
+        size = s;
+        storable = λ h. clash refl h;
+      }
+
+  module _ (l : fitting (length F) (length E) points records rows Passed ≡ Passed) (e : plain F E Passed ≡ Passed) where
+    lengths : Lengths (length F) (length E) points records rows
+    lengths = lengths-passed (length F) (length E) points records rows l
+
+    right-input : wrongInput (length F) (length E) ≡ false
+    right-input = left-false (wrongInput (length F) (length E)) (wrongLent points records rows) (lengths .input)
+
+    -- what the tests on the elements rely on
+    pub plain-judged : Plain (length F / 3) E
+    plain-judged = plain-passed (length F) E right-input (numbers-passed F E e .there) (numbers-passed F E e .single)
+
+    pub settled-judged : {r : Verdict} {scratch : List ℕ} → Judged (length F / 3) E r scratch → Settled F E points records rows r scratch
+    unfolding judged
+    settled-judged {r} {scratch} j =
+        record {
+          answer = j .answer ∙ sym (rw (lengths-next (length F) (length E) points records rows lengths, numbers-next F E (numbers-passed F E e)) refl);
+          size = j .size;
+          storable = λ h. record {
+            plain = plain-judged;
+            size = j .size;
+            painted = j .painted h;
+            room = roomy-passed (length F) (length E) points records rows right-input (lengths .room);
+          };
+        }

@@ -1,0 +1,7 @@
+pub mod Search
+pub mod Causes
+pub mod Colours
+pub mod Order
+pub mod Opening
+pub mod Scratch
+pub mod Sorting

@@ -1,0 +1,84 @@
+-- Opening (01, "Opening" and "What comes back"): tests 1 to 8 in that order, each over the whole input before the next, the smallest place; or the opened mesh.
+use mathlib.Core.Path.{_≡_}
+use mathlib.Core.Bool.{Bool, true, false, _||_}
+use mathlib.Core.List.{List}
+use Prim.Native.Nat.{ℕ, _/_}
+use lib.ListN.{length, getD}
+use lib.Ieee.{Float}
+use Rattle.tables.specs.declared.layout.Counts.{Counts}
+use Rattle.tables.specs.declared.record.Record.{Record}
+use Rattle.tables.specs.Layout.{pointAt}
+use Rattle.tables.specs.Mesh.{Lent, Mesh, upTo, laid}
+use Rattle.opening.specs.declared.answer.Found.{Found}
+use Rattle.opening.specs.declared.answer.Found.the-variants.{At, Nowhere}
+use Rattle.opening.specs.declared.answer.Verdict.{Verdict}
+use Rattle.opening.specs.declared.answer.Verdict.the-variants as verdict
+use Rattle.opening.specs.declared.answer.Opened.{Opened}
+use Rattle.opening.specs.declared.answer.Opened.the-variants as opened
+use Rattle.opening.specs.Search.{first}
+use Rattle.opening.specs.Causes.{wrongInput, wrongLent, noRoom, unusable, missing, double, same, third}
+use Rattle.opening.specs.Colours.{colours, garish, largest}
+use Rattle.opening.specs.Order.{rootOf}
+
+-- refused by this number where the cause is present, else what comes next
+abbrev pub when : Bool → ℕ → Verdict → Verdict
+when true n next = verdict.Refused n 0
+when false n next = next
+
+-- refused by this number at the smallest place, else what comes next
+abbrev pub at : Found → ℕ → Verdict → Verdict
+at (At p) n next = verdict.Refused n p
+at Nowhere n next = next
+
+-- tests 6 to 8, through the index
+unfoldable pub late : List ℕ → ℕ → Verdict
+late E vertices = at (first (same E) (length E / 4)) 6 (at (first (third E) (length E / 4)) 7 (at (first (garish E) vertices) 8 verdict.Passed))
+
+-- tests 3 to 5, on coordinates and vertex numbers, and then the rest
+unfoldable pub plain : List Float → List ℕ → Verdict → Verdict
+plain F E next = at (first (unusable F) (length F / 3)) 3 (at (first (missing (length F / 3) E) (length E / 4)) 4 (at (first (double E) (length E / 4)) 5 next))
+
+-- tests 1 and 2, on lengths alone, and then the rest
+unfoldable pub fitting : ℕ → ℕ → ℕ → ℕ → ℕ → Verdict → Verdict
+fitting coordinates elements points records rows next =
+    when (wrongInput coordinates elements || wrongLent points records rows) 1 (when (noRoom (coordinates / 3) (elements / 4) points records rows) 2 next)
+
+-- all tests in their order
+unfoldable pub judged : List Float → List ℕ → ℕ → ℕ → ℕ → Verdict
+judged F E points records rows = fitting (length F) (length E) points records rows (plain F E (late E (length F / 3)))
+
+-- an initial vertex: its colour, then 4294967295 (01, "The tables")
+abbrev pub initial : ℕ → Record
+initial colour = record { first = colour; second = 4294967295 }
+
+-- the opened mesh: the points as given, the colours of Algorithm 2, the rows of Definition 2
+unfoldable pub openedMesh : List Float → List ℕ → Mesh
+openedMesh F E =
+    let vertices = length F / 3 in
+    let cs = colours E vertices in
+    record {
+      points = upTo (pointAt F) vertices;
+      records = upTo (λ v. initial (getD cs v 0)) vertices;
+      rows = upTo (rootOf (largest cs) (λ v. getD cs v 0) E) (length E / 4);
+    }
+
+-- the answer: the counts of the mesh, or the refusal
+abbrev pub answer : Verdict → ℕ → ℕ → Opened
+answer (verdict.Refused n p) vertices rows = opened.Refused n p
+answer verdict.Passed vertices rows = opened.Done (record { vertices = vertices; rows = rows })
+
+-- the tables: as at entry where refused, else the mesh and zeros after it, to the end of the lent tables
+abbrev pub tables : Verdict → List Float → List ℕ → Lent → Lent
+tables (verdict.Refused n p) F E t = t
+tables verdict.Passed F E t = laid (openedMesh F E) (length (t .points)) (length (t .records)) (length (t .rows))
+
+abbrev pub verdictOn : List Float → List ℕ → Lent → Verdict
+verdictOn F E t = judged F E (length (t .points)) (length (t .records)) (length (t .rows))
+
+abbrev pub lent : List Float → List ℕ → List ℕ → Lent
+lent points records rows = record { points = points; records = records; rows = rows }
+
+-- The promise of opening F and E into the lent tables t: the answer r, and the tables t' afterwards.
+pub record Opens (F : List Float) (E : List ℕ) (t : Lent) (r : Opened) (t' : Lent) : Type 0 where
+  pub answers : r ≡ answer (verdictOn F E t) (length F / 3) (length E / 4)
+  pub leaves : t' ≡ tables (verdictOn F E t) F E t

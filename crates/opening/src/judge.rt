@@ -1,0 +1,115 @@
+// The tests in their order.
+use crate::answer::Found;
+use crate::answer::Verdict;
+use crate::colours::colour_all;
+use crate::coordinates::first_unusable;
+use crate::elements::first_double;
+use crate::elements::first_missing;
+use crate::faces::first_same;
+use crate::faces::first_third;
+use crate::index::fill;
+use crate::lengths::input_wrong;
+use crate::lengths::lent_wrong;
+use crate::lengths::too_many;
+ghost use mathlib.Core.Path.{_≡_};
+ghost use Prim.Native.Nat.{_/_};
+ghost use lib.ListN.{length};
+ghost use Rattle.opening.specs.declared.answer.Verdict.the-variants.{Passed};
+ghost use Rattle.opening.specs.Opening.{at, fitting, plain};
+ghost use Rattle.opening.specs.Scratch.{Plain, Ready, Painted, Blank, Judged, Settled};
+
+// Refused by this number at the place found, else passed.
+fn verdict_at(found: Found, number: u32) -> Verdict
+    ensures { λ r. ⌜ r ≡ at found number Passed ⌝ }
+{
+    match found {
+        Found::At(place) => Verdict::Refused { number, place },
+        Found::Nowhere => Verdict::Passed,
+    }
+}
+
+fn judge_lengths(
+    coordinates: usize,
+    elements: usize,
+    points: usize,
+    records: usize,
+    rows: usize,
+) -> Verdict
+    ensures { λ r. ⌜ r ≡ fitting coordinates elements points records rows Passed ⌝ }
+{
+    if input_wrong(coordinates, elements) {
+        return Verdict::Refused {
+            number: 1,
+            place: 0,
+        };
+    }
+    if lent_wrong(points, records, rows) {
+        return Verdict::Refused {
+            number: 1,
+            place: 0,
+        };
+    }
+    if too_many(coordinates / 3, elements / 4, points, records, rows) {
+        return Verdict::Refused {
+            number: 2,
+            place: 0,
+        };
+    }
+    Verdict::Passed
+}
+
+fn judge_numbers(coordinates: &[f64], elements: &[u32]) -> Verdict
+    ensures { λ r. ⌜ r ≡ plain (now (coordinates .entry)) (now (elements .entry)) Passed ⌝ }
+{
+    let unusable = first_unusable(coordinates);
+    if let Found::At(place) = unusable {
+        return Verdict::Refused { number: 3, place };
+    }
+    let missing = first_missing(elements, coordinates.len() / 3);
+    if let Found::At(place) = missing {
+        return Verdict::Refused { number: 4, place };
+    }
+    verdict_at(first_double(elements), 5)
+}
+
+fn judge_faces(elements: &[u32], vertices: usize, scratch: &mut [u32]) -> Verdict
+    requires { ⌜ Plain vertices (now elements) ⌝ }
+    requires { ⌜ Ready (now elements) (now scratch) ⌝ }
+    requires { ⌜ Painted (now elements) 0 (now scratch) ⌝ }
+    ensures { λ r. ⌜ Judged vertices (now (elements .entry)) r (now (scratch .exit)) ⌝ }
+{
+    let same = first_same(elements, scratch, vertices);
+    if let Found::At(place) = same {
+        return Verdict::Refused { number: 6, place };
+    }
+    let third = first_third(elements, scratch, vertices);
+    if let Found::At(place) = third {
+        return Verdict::Refused { number: 7, place };
+    }
+    verdict_at(colour_all(elements, vertices, scratch), 8)
+}
+
+// All tests; where they pass, the scratch table has the colours.
+pub fn judge(
+    coordinates: &[f64],
+    elements: &[u32],
+    points: usize,
+    records: usize,
+    rows: usize,
+    scratch: &mut [u32],
+) -> Verdict
+    requires { ⌜ Blank (now scratch) ⌝ }
+    ensures { λ r. ⌜ Settled (now (coordinates .entry)) (now (elements .entry)) points records rows r (now (scratch .exit)) ⌝ }
+{
+    let lengths = judge_lengths(coordinates.len(), elements.len(), points, records, rows);
+    if let Verdict::Refused { number, place } = lengths {
+        return Verdict::Refused { number, place };
+    }
+    let numbers = judge_numbers(coordinates, elements);
+    if let Verdict::Refused { number, place } = numbers {
+        return Verdict::Refused { number, place };
+    }
+    let vertices = coordinates.len() / 3;
+    fill(elements, vertices, scratch);
+    judge_faces(elements, vertices, scratch)
+}

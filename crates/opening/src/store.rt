@@ -1,0 +1,88 @@
+// The opened tables, written whole: points as given, records, rows, and zeros to the end of each lent table.
+use crate::index::COLOURS;
+use crate::order::root_row;
+use tables::layout::INITIAL;
+use tables::record::Record;
+ghost use mathlib.Core.Path.{_≡_};
+ghost use Prim.Native.Nat.{ℕ, _*_, _/_, _≤_, _<_};
+ghost use lib.ListN.{length, getD, replicate};
+ghost use Rattle.tables.specs.Layout.{noFloat, pointAt, pointCells, recordCells, rowCells};
+ghost use Rattle.tables.specs.Mesh.{padded, flat, upTo};
+ghost use Rattle.opening.specs.Opening.{initial};
+ghost use Rattle.opening.specs.Order.{rootOf};
+ghost use Rattle.opening.specs.Scratch.{Plain, colourIn};
+
+fn clear_numbers(table: &mut [u32])
+    ensures { λ _. ⌜ now (table .exit) ≡ replicate (length (now (table .entry))) 0 ⌝ }
+{
+    let n = table.len();
+    let mut i = 0usize;
+    while i < n {
+        table[i] = 0;
+        i += 1;
+    }
+}
+
+fn clear_floats(table: &mut [f64])
+    ensures { λ _. ⌜ now (table .exit) ≡ replicate (length (now (table .entry))) noFloat ⌝ }
+{
+    let n = table.len();
+    let mut i = 0usize;
+    while i < n {
+        table[i] = 0.0;
+        i += 1;
+    }
+}
+
+pub fn store_points(coordinates: &[f64], points: &mut [f64])
+    requires { ⌜ 3 * (length (now coordinates) / 3) ≤ length (now points) ⌝ }
+    ensures { λ _. ⌜ now (points .exit) ≡ padded (length (now (points .entry))) noFloat (flat pointCells (upTo (pointAt (now (coordinates .entry))) (length (now (coordinates .entry)) / 3))) ⌝ }
+{
+    clear_floats(points);
+    let n = coordinates.len() / 3;
+    let mut v = 0usize;
+    while v < n {
+        tables::point::write(points, v, tables::point::read(coordinates, v));
+        v += 1;
+    }
+}
+
+fn initial_record(scratch: &[u32], v: usize) -> Record
+    requires { ⌜ length (now scratch) ≡ 440000 ⌝ }
+    requires { ⌜ v < 20000 ⌝ }
+    ensures { λ r. ⌜ r ≡ initial (colourIn (now (scratch .entry)) v) ⌝ }
+{
+    Record {
+        first: scratch[COLOURS + v],
+        second: INITIAL,
+    }
+}
+
+pub fn store_records(scratch: &[u32], vertices: usize, records: &mut [u32])
+    requires { ⌜ length (now scratch) ≡ 440000 ⌝ }
+    requires { ⌜ vertices ≤ 20000 ⌝ }
+    requires { ⌜ 2 * vertices ≤ length (now records) ⌝ }
+    ensures { λ _. ⌜ now (records .exit) ≡ padded (length (now (records .entry))) 0 (flat recordCells (upTo (λ (v : ℕ). initial (colourIn (now (scratch .entry)) v)) vertices)) ⌝ }
+{
+    clear_numbers(records);
+    let mut v = 0usize;
+    while v < vertices {
+        tables::record::write(records, v, initial_record(scratch, v));
+        v += 1;
+    }
+}
+
+pub fn store_rows(elements: &[u32], scratch: &[u32], vertices: usize, n: u32, rows: &mut [u32])
+    requires { ⌜ Plain vertices (now elements) ⌝ }
+    requires { ⌜ length (now scratch) ≡ 440000 ⌝ }
+    requires { ⌜ 8 * (length (now elements) / 4) ≤ length (now rows) ⌝ }
+    ensures { λ _. ⌜ now (rows .exit) ≡ padded (length (now (rows .entry))) 0 (flat rowCells (upTo (rootOf n (colourIn (now (scratch .entry))) (now (elements .entry))) (length (now (elements .entry)) / 4))) ⌝ }
+{
+    clear_numbers(rows);
+    let count = elements.len() / 4;
+    let mut k = 0usize;
+    while k < count {
+        tables::row::write(rows, k, root_row(elements, scratch, vertices, n, k));
+        k += 1;
+    }
+}
