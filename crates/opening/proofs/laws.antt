@@ -9,6 +9,7 @@ pub mod Walking
 pub mod Corners
 pub mod Earlier
 pub mod Faces
+pub mod Uses
 pub mod Indexing
 pub mod Free
 pub mod Colours
@@ -20,3 +21,4 @@ pub mod Filling
 pub mod Sorting
 pub mod Sorted
 pub mod Opened
+pub mod Agree

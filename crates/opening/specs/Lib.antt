@@ -5,3 +5,4 @@ pub mod Order
 pub mod Opening
 pub mod Scratch
 pub mod Sorting
+pub mod Agree

@@ -1,6 +1,7 @@
--- The scratch table while opening looks at the input: heads, links and colours, and what each step keeps true of them. Nothing here is promised to callers.
+-- The scratch table while opening looks at the input: heads, links, counts of uses and colours, and what each step keeps true of them. Nothing here is promised to callers.
 use mathlib.Core.Path.{_≡_}
-use mathlib.Core.Bool.{Bool, true, false, cond}
+use mathlib.Core.Bool.{Bool, true, false, _&&_, cond}
+use mathlib.Core.Logic.{_⊎_}
 use mathlib.Core.List.{List}
 use Prim.Native.Nat.{ℕ, zero, suc, _+_, _*_, _/_, _≤_, _<_}
 use lib.Dec.{eqb, ltb}
@@ -19,11 +20,14 @@ use Rattle.opening.specs.Colours.{taken, colours, colourOf, garish}
 abbrev pub linksAt : ℕ
 linksAt = 20000
 
+abbrev pub usesAt : ℕ
+usesAt = 420000
+
 abbrev pub coloursAt : ℕ
-coloursAt = 420000
+coloursAt = 440000
 
 abbrev pub scratchLength : ℕ
-scratchLength = 440000
+scratchLength = 460000
 
 -- the key of corner slot i
 abbrev pub slot : List ℕ → ℕ → ℕ
@@ -52,6 +56,19 @@ Blank scratch = scratch ≡ replicate scratchLength 0
 pub record Ready (E scratch : List ℕ) : Type 0 where
   pub size : length scratch ≡ scratchLength
   pub index : Indexed (slot E) (length E) linksAt scratch
+
+-- there is a count of uses for v, and one more is a u32
+abbrev pub countable : List ℕ → ℕ → Bool
+countable scratch v = ltb (usesAt + v) coloursAt && (ltb (usesAt + v) (length scratch) && ltb (getD scratch (usesAt + v) 0) 4294967295)
+
+-- one use of v more. The counts only choose which chain is walked, so nothing is said of their values.
+unfoldable pub bumped : List ℕ → ℕ → List ℕ
+bumped scratch v = cond (countable scratch v) (set scratch (usesAt + v) (getD scratch (usesAt + v) 0 + 1)) scratch
+
+-- a place of an element, one of two
+pub record Chosen (p q r : ℕ) : Type 0 where
+  pub low : r < 4
+  pub one : (r ≡ p) ⊎ (r ≡ q)
 
 -- the colours of the first v vertices stand in the scratch table and zeros after them, and none is over 63
 pub record Painted (E : List ℕ) (v : ℕ) (scratch : List ℕ) : Type 0 where

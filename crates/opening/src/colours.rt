@@ -13,7 +13,7 @@ ghost use Rattle.opening.specs.Scratch.{Plain, Ready, Painted, Flags, Ma
 
 // Marks the colour of u where it is smaller than v.
 fn mark(scratch: &[u32], v: usize, u: usize, flags: &mut [u32])
-    requires { ⌜ length (now scratch) ≡ 440000 ⌝ }
+    requires { ⌜ length (now scratch) ≡ 460000 ⌝ }
     requires { ⌜ u < 20000 ⌝ }
     ensures { λ _. ⌜ now (flags .exit) ≡ marked (now (scratch .entry)) v u (now (flags .entry)) ⌝ }
 {
@@ -35,7 +35,7 @@ fn mark_element(
     flags: &mut [u32],
 )
     requires { ⌜ Plain vertices (now elements) ⌝ }
-    requires { ⌜ length (now scratch) ≡ 440000 ⌝ }
+    requires { ⌜ length (now scratch) ≡ 460000 ⌝ }
     requires { ⌜ 4 * k + 3 < length (now elements) ⌝ }
     ensures { λ _. ⌜ now (flags .exit) ≡ markedAll (now (elements .entry)) (now (scratch .entry)) v k (now (flags .entry)) ⌝ }
 {
@@ -111,7 +111,7 @@ pub fn colour_all(elements: &[u32], vertices: usize, scratch: &mut [u32]) -> Fou
 
 // N, the largest colour.
 pub fn largest_colour(elements: &[u32], scratch: &[u32], vertices: usize) -> u32
-    requires { ⌜ length (now scratch) ≡ 440000 ⌝ }
+    requires { ⌜ length (now scratch) ≡ 460000 ⌝ }
     requires { ⌜ vertices ≤ 20000 ⌝ }
     requires { ⌜ Painted (now elements) vertices (now scratch) ⌝ }
     ensures { λ r. ⌜ r ≡ largest (colours (now (elements .entry)) vertices) ⌝ }

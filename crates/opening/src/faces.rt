@@ -2,15 +2,18 @@
 use crate::answer::Found;
 use crate::elements::vertex_at;
 use crate::elements::wide;
+use crate::index::COLOURS;
 use crate::index::LINKS;
+use crate::index::SCRATCH;
+use crate::index::USES;
 ghost use mathlib.Core.Path.{_≡_};
 ghost use mathlib.Core.Bool.{_&&_};
 ghost use Prim.Native.Nat.{ℕ, _*_, _/_, _<_, _+_};
 ghost use lib.Dec.{leb};
 ghost use lib.ListN.{length, getD};
-ghost use Rattle.opening.specs.Causes.{has, same, third};
+ghost use Rattle.opening.specs.Causes.{vertex, has, before, same, third};
 ghost use Rattle.opening.specs.Search.{first, count};
-ghost use Rattle.opening.specs.Scratch.{Plain, Ready};
+ghost use Rattle.opening.specs.Scratch.{Plain, Ready, Chosen};
 
 pub fn holds(elements: &[u32], k: usize, v: usize) -> bool
     requires { ⌜ 4 * k + 3 < length (now elements) ⌝ }
@@ -67,16 +70,51 @@ fn earlier(
     n
 }
 
+// Whether a is used less than b. It only chooses which chain is walked, and any choice is right, so it promises nothing.
+fn used_less(scratch: &[u32], a: usize, b: usize) -> bool {
+    if scratch.len() < SCRATCH {
+        return false;
+    }
+    if COLOURS - USES <= a {
+        return false;
+    }
+    if COLOURS - USES <= b {
+        return false;
+    }
+    scratch[USES + a] < scratch[USES + b]
+}
+
+// Of two places of element k that whose vertex is used less.
+fn rarer(elements: &[u32], scratch: &[u32], k: usize, p: usize, q: usize) -> usize
+    requires { ⌜ 4 * k + 3 < length (now elements) ⌝ }
+    requires { ⌜ p < 4 ⌝ }
+    requires { ⌜ q < 4 ⌝ }
+    ensures { λ r. ⌜ Chosen p q r ⌝ }
+{
+    if used_less(
+        scratch,
+        vertex_at(elements, k, q),
+        vertex_at(elements, k, p),
+    ) {
+        return q;
+    }
+    p
+}
+
+// Walks the chain of the vertex that is used least, for the other three.
 fn same_before(elements: &[u32], scratch: &[u32], vertices: usize, k: usize) -> bool
     requires { ⌜ Plain vertices (now elements) ⌝ }
     requires { ⌜ Ready (now elements) (now scratch) ⌝ }
     requires { ⌜ 4 * k + 3 < length (now elements) ⌝ }
     ensures { λ r. ⌜ r ≡ same (now (elements .entry)) k ⌝ }
 {
-    let b = vertex_at(elements, k, 1);
-    let c = vertex_at(elements, k, 2);
-    let d = vertex_at(elements, k, 3);
-    0 < earlier(elements, scratch, vertices, 4 * k, b, c, d)
+    let p = rarer(elements, scratch, k, 0, 1);
+    let q = rarer(elements, scratch, k, 2, 3);
+    let m = rarer(elements, scratch, k, p, q);
+    let a = vertex_at(elements, k, (m + 1) % 4);
+    let b = vertex_at(elements, k, (m + 2) % 4);
+    let c = vertex_at(elements, k, (m + 3) % 4);
+    0 < earlier(elements, scratch, vertices, 4 * k + m, a, b, c)
 }
 
 pub fn first_same(elements: &[u32], scratch: &[u32], vertices: usize) -> Found
@@ -95,21 +133,28 @@ pub fn first_same(elements: &[u32], scratch: &[u32], vertices: usize) -> Found
     Found::Nowhere
 }
 
-// Whether two elements before hold the face of the slot's vertex with a and b.
+// Whether two elements before k hold its face of the places p, q and r: walks the chain of the vertex that is used least.
 fn face_before(
     elements: &[u32],
     scratch: &[u32],
     vertices: usize,
-    slot: usize,
-    a: usize,
-    b: usize,
+    k: usize,
+    p: usize,
+    q: usize,
+    r: usize,
 ) -> bool
     requires { ⌜ Plain vertices (now elements) ⌝ }
     requires { ⌜ Ready (now elements) (now scratch) ⌝ }
-    requires { ⌜ slot < length (now elements) ⌝ }
-    ensures { λ r. ⌜ r ≡ leb 2 (count (λ (j : ℕ). has (now (elements .entry)) j (getD (now (elements .entry)) slot 0) && (has (now (elements .entry)) j a && has (now (elements .entry)) j b)) (slot / 4)) ⌝ }
+    requires { ⌜ 4 * k + 3 < length (now elements) ⌝ }
+    requires { ⌜ (p < 4) × ((q < 4) × (r < 4)) ⌝ }
+    ensures { λ b. ⌜ b ≡ leb 2 (before (now (elements .entry)) k (vertex (now (elements .entry)) k p) (vertex (now (elements .entry)) k q) (vertex (now (elements .entry)) k r)) ⌝ }
 {
-    1 < earlier(elements, scratch, vertices, slot, a, b, b)
+    let l = rarer(elements, scratch, k, p, q);
+    let m = rarer(elements, scratch, k, l, r);
+    let a = vertex_at(elements, k, p);
+    let b = vertex_at(elements, k, q);
+    let c = vertex_at(elements, k, r);
+    1 < earlier(elements, scratch, vertices, 4 * k + m, a, b, c)
 }
 
 fn third_before(elements: &[u32], scratch: &[u32], vertices: usize, k: usize) -> bool
@@ -118,19 +163,16 @@ fn third_before(elements: &[u32], scratch: &[u32], vertices: usize, k: usize) ->
     requires { ⌜ 4 * k + 3 < length (now elements) ⌝ }
     ensures { λ r. ⌜ r ≡ third (now (elements .entry)) k ⌝ }
 {
-    let b = vertex_at(elements, k, 1);
-    let c = vertex_at(elements, k, 2);
-    let d = vertex_at(elements, k, 3);
-    if face_before(elements, scratch, vertices, 4 * k, b, c) {
+    if face_before(elements, scratch, vertices, k, 0, 1, 2) {
         return true;
     }
-    if face_before(elements, scratch, vertices, 4 * k, b, d) {
+    if face_before(elements, scratch, vertices, k, 0, 1, 3) {
         return true;
     }
-    if face_before(elements, scratch, vertices, 4 * k, c, d) {
+    if face_before(elements, scratch, vertices, k, 0, 2, 3) {
         return true;
     }
-    face_before(elements, scratch, vertices, 4 * k + 1, c, d)
+    face_before(elements, scratch, vertices, k, 1, 2, 3)
 }
 
 pub fn first_third(elements: &[u32], scratch: &[u32], vertices: usize) -> Found

@@ -1,15 +1,33 @@
-// The index of corner slots: place 4 k + q has the key vertex q of element k. In the scratch table stand the heads, the links, and then the colours.
+// The index of corner slots: place 4 k + q has the key vertex q of element k. In the scratch table stand the heads, the links, how often each vertex is used, and then the colours.
 
 use crate::elements::wide;
 ghost use mathlib.Core.Path.{_≡_};
-ghost use Rattle.opening.specs.Scratch.{Blank, Plain, Ready, Painted};
+ghost use Rattle.opening.specs.Scratch.{Blank, Plain, Ready, Painted, bumped};
 
-// Where the links and the colours begin, and the length of the whole.
+// Where the links, the counts of uses and the colours begin, and the length of the whole.
 pub const LINKS: usize = 20000;
 
-pub const COLOURS: usize = 420000;
+pub const USES: usize = 420000;
 
-pub const SCRATCH: usize = 440000;
+pub const COLOURS: usize = 440000;
+
+pub const SCRATCH: usize = 460000;
+
+// Counts one use of v more. Where there is no room for it nothing changes: the counts only choose which chain is walked.
+fn bump(scratch: &mut [u32], v: usize)
+    ensures { λ _. ⌜ now (scratch .exit) ≡ bumped (now (scratch .entry)) v ⌝ }
+{
+    if COLOURS - USES <= v {
+        return;
+    }
+    let i = USES + v;
+    if scratch.len() <= i {
+        return;
+    }
+    if scratch[i] < 4294967295 {
+        scratch[i] = scratch[i] + 1;
+    }
+}
 
 pub fn fill(elements: &[u32], vertices: usize, scratch: &mut [u32])
     requires { ⌜ Plain vertices (now elements) ⌝ }
@@ -20,7 +38,9 @@ pub fn fill(elements: &[u32], vertices: usize, scratch: &mut [u32])
     let n = elements.len();
     let mut i = 0usize;
     while i < n {
-        chain::push(scratch, LINKS, i, wide(elements[i]));
+        let v = wide(elements[i]);
+        chain::push(scratch, LINKS, i, v);
+        bump(scratch, v);
         i += 1;
     }
 }

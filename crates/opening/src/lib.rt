@@ -4,6 +4,7 @@ use crate::answer::Verdict;
 use crate::index::SCRATCH;
 use tables::layout::Counts;
 
+pub mod agree;
 pub mod answer;
 mod colours;
 mod coordinates;

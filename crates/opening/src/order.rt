@@ -24,7 +24,7 @@ pub struct Four {
 }
 
 fn colour_in(scratch: &[u32], v: u32) -> u32
-    requires { ⌜ length (now scratch) ≡ 440000 ⌝ }
+    requires { ⌜ length (now scratch) ≡ 460000 ⌝ }
     requires { ⌜ v < 20000 ⌝ }
     ensures { λ r. ⌜ r ≡ colourIn (now (scratch .entry)) v ⌝ }
 {
@@ -32,7 +32,7 @@ fn colour_in(scratch: &[u32], v: u32) -> u32
 }
 
 fn pair(scratch: &[u32], a: u32, b: u32) -> Two
-    requires { ⌜ length (now scratch) ≡ 440000 ⌝ }
+    requires { ⌜ length (now scratch) ≡ 460000 ⌝ }
     requires { ⌜ a < 20000 ⌝ }
     requires { ⌜ b < 20000 ⌝ }
     ensures { λ r. ⌜ r ≡ inOrder (colourIn (now (scratch .entry))) a b ⌝ }
@@ -46,7 +46,7 @@ fn pair(scratch: &[u32], a: u32, b: u32) -> Two
 }
 
 fn sort(scratch: &[u32], w: Four) -> Four
-    requires { ⌜ length (now scratch) ≡ 440000 ⌝ }
+    requires { ⌜ length (now scratch) ≡ 460000 ⌝ }
     requires { ⌜ Low w ⌝ }
     ensures { λ r. ⌜ (four r ≡ sorted (colourIn (now (scratch .entry))) (four w)) × Low r ⌝ }
 {
@@ -64,7 +64,7 @@ fn sort(scratch: &[u32], w: Four) -> Four
 }
 
 fn arrange(scratch: &[u32], n: u32, w: Four) -> Four
-    requires { ⌜ length (now scratch) ≡ 440000 ⌝ }
+    requires { ⌜ length (now scratch) ≡ 460000 ⌝ }
     requires { ⌜ Low w ⌝ }
     ensures { λ r. ⌜ four r ≡ arranged three n (colourIn (now (scratch .entry))) (four w) ⌝ }
 {
@@ -83,7 +83,7 @@ fn arrange(scratch: &[u32], n: u32, w: Four) -> Four
 // Row k of the opened mesh, N being the largest colour.
 pub fn root_row(elements: &[u32], scratch: &[u32], vertices: usize, n: u32, k: usize) -> Row
     requires { ⌜ Plain vertices (now elements) ⌝ }
-    requires { ⌜ length (now scratch) ≡ 440000 ⌝ }
+    requires { ⌜ length (now scratch) ≡ 460000 ⌝ }
     requires { ⌜ 4 * k + 3 < length (now elements) ⌝ }
     requires { ⌜ k < 4294967296 ⌝ }
     ensures { λ r. ⌜ r ≡ rootOf n (colourIn (now (scratch .entry))) (now (elements .entry)) k ⌝ }

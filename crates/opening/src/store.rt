@@ -47,8 +47,8 @@ pub fn store_points(coordinates: &[f64], points: &mut [f64])
     }
 }
 
-fn initial_record(scratch: &[u32], v: usize) -> Record
-    requires { ⌜ length (now scratch) ≡ 440000 ⌝ }
+pub fn initial_record(scratch: &[u32], v: usize) -> Record
+    requires { ⌜ length (now scratch) ≡ 460000 ⌝ }
     requires { ⌜ v < 20000 ⌝ }
     ensures { λ r. ⌜ r ≡ initial (colourIn (now (scratch .entry)) v) ⌝ }
 {
@@ -59,7 +59,7 @@ fn initial_record(scratch: &[u32], v: usize) -> Record
 }
 
 pub fn store_records(scratch: &[u32], vertices: usize, records: &mut [u32])
-    requires { ⌜ length (now scratch) ≡ 440000 ⌝ }
+    requires { ⌜ length (now scratch) ≡ 460000 ⌝ }
     requires { ⌜ vertices ≤ 20000 ⌝ }
     requires { ⌜ 2 * vertices ≤ length (now records) ⌝ }
     ensures { λ _. ⌜ now (records .exit) ≡ padded (length (now (records .entry))) 0 (flat recordCells (upTo (λ (v : ℕ). initial (colourIn (now (scratch .entry)) v)) vertices)) ⌝ }
@@ -74,7 +74,7 @@ pub fn store_records(scratch: &[u32], vertices: usize, records: &mut [u32])
 
 pub fn store_rows(elements: &[u32], scratch: &[u32], vertices: usize, n: u32, rows: &mut [u32])
     requires { ⌜ Plain vertices (now elements) ⌝ }
-    requires { ⌜ length (now scratch) ≡ 440000 ⌝ }
+    requires { ⌜ length (now scratch) ≡ 460000 ⌝ }
     requires { ⌜ 8 * (length (now elements) / 4) ≤ length (now rows) ⌝ }
     ensures { λ _. ⌜ now (rows .exit) ≡ padded (length (now (rows .entry))) 0 (flat rowCells (upTo (rootOf n (colourIn (now (scratch .entry))) (now (elements .entry))) (length (now (elements .entry)) / 4))) ⌝ }
 {

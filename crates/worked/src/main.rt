@@ -1,5 +1,6 @@
 // The worked cases of document 01 that are run, with the cases at the edge of each rule; the expected lines are in `stdout`.
 mod bound;
+mod checks;
 mod midpoints;
 mod opens;
 mod show;
@@ -9,4 +10,5 @@ fn main() {
     splits::run();
     midpoints::run();
     opens::run();
+    checks::run();
 }

@@ -85,6 +85,16 @@ module _ (key : ℕ → ℕ) (v : ℕ) where
       go f (yes k) = at f k (List·Memᴰ·cases-cons (rw (places-hit n k) at m))
       go f (no k) = wider (f (rw (places-miss n k) at m))
 
+-- between a place and the last one before it with the key there is none
+pub latest-between : (key : ℕ → ℕ) (v n i : ℕ) → latest key v n ≤ i → i < n → key i ≡ v → ⊥
+latest-between key v zero i l h e = omega arith
+latest-between key v (suc n) i l h e = go (ℕ-discrete (key n) v) (ℕ-discrete i n) (latest-between key v n i)
+  where
+    go : Dec (key n ≡ v) → Dec (i ≡ n) → (latest key v n ≤ i → i < n → key i ≡ v → ⊥) → ⊥
+    go (yes k) q f = omega (arith, latest-hit key v n k)
+    go (no k) (yes q) f = k (rw q at e)
+    go (no k) (no q) f = f (omega (arith, latest-miss key v n k)) (omega arith) e
+
 -- only the keys below n matter
 module _ (key key' : ℕ → ℕ) (v : ℕ) where
   pub latest-same : (n : ℕ) → ((i : ℕ) → i < n → key i ≡ key' i) → latest key v n ≡ latest key' v n

@@ -1,16 +1,16 @@
 -- What element k holds, and numbers 6 and 7, as the code tests them one after the other on what the walks counted.
-use mathlib.Core.Path.{_≡_, sym, _∙_}
-use mathlib.Core.Bool.{Bool, true, false, _||_, _&&_, or-true, and-self}
+use mathlib.Core.Path.{_≡_, refl, sym, _∙_}
+use mathlib.Core.Bool.{Bool, true, false, _&&_, or-true, and-false, and-comm, and-assoc, and-self-left}
+use mathlib.Core.Logic.{_⊎_, inl, inr}
 use mathlib.Core.List.{List}
-use Prim.Native.Nat.{ℕ, _+_, _*_, _/_}
-use native.Mathlib.Nat.{add-zero}
+use Prim.Native.Nat.{ℕ, zero, suc, _+_, _*_, _/_, _%_, _<_}
 use native.Mathlib.Omega.{arith}
 use borrow.Author.Tests.{eq-eqb, ne-eqb}
 use lib.Dec.{eqb, ltb, leb}
 use Rattle.opening.specs.Search.{count}
-use Rattle.opening.specs.Causes.{vertex, has, same, third}
-use Rattle.opening.specs.Scratch.{slot}
-use Rattle.opening.proofs.laws.Counting.{any-count}
+use Rattle.opening.specs.Causes.{vertex, has, before, same}
+use Rattle.opening.specs.Scratch.{Chosen}
+use Rattle.opening.proofs.laws.Counting.{any-count, count-same}
 
 -- element k holds v, looked for at one place after the other
 module _ (E : List ℕ) (k v : ℕ) where
@@ -30,38 +30,40 @@ module _ (E : List ℕ) (k v : ℕ) where
   unfolding has
   holds-last e p f q g r h = rw (← e, ← f, ← g, ← h, ne-eqb _ v p, ne-eqb _ v q, ne-eqb _ v r)
 
--- an element before k has the same vertices exactly if their number is over 0
-pub same-counted : (E : List ℕ) (k : ℕ) {n b c d : ℕ} → b ≡ vertex E k 1 → c ≡ vertex E k 2 → d ≡ vertex E k 3 → n ≡ count (λ j. has E j (slot E (4 * k)) && (has E j b && (has E j c && has E j d))) ((4 * k) / 4) → ltb 0 n ≡ same E k
-unfolding same
-same-counted E k p q r e =
-    let f : (4 * k) / 4 ≡ k = omega arith in
-    rw (e, ← any-count, p, q, r, f, add-zero)
+-- the order of four tests does not matter: they may begin at any of them
+turned : (a b c d : Bool) → b && (c && (d && a)) ≡ a && (b && (c && d))
+turned a b c d = rw (and-comm a (b && (c && d))) (simp and-assoc)
 
--- two elements before that of slot s hold its vertex with a and b
-abbrev pub faceTaken : List ℕ → ℕ → ℕ → ℕ → Bool
-faceTaken E s a b = leb 2 (count (λ j. has E j (slot E s) && (has E j a && has E j b)) (s / 4))
+all-turned : (f : ℕ → Bool) (m : ℕ) → m < 4 → f m && (f ((m + 1) % 4) && (f ((m + 2) % 4) && f ((m + 3) % 4))) ≡ f 0 && (f 1 && (f 2 && f 3))
+all-turned f zero h = refl
+all-turned f (suc zero) h = turned (f 0) (f 1) (f 2) (f 3)
+all-turned f (suc (suc zero)) h = turned (f 1) (f 2) (f 3) (f 0) ∙ turned (f 0) (f 1) (f 2) (f 3)
+all-turned f (suc (suc (suc zero))) h = sym (turned (f 3) (f 0) (f 1) (f 2))
+all-turned f (suc (suc (suc (suc m)))) h = absurd (omega arith)
 
--- a face of k is taken, looked for at one face after the other
-module _ (E : List ℕ) (k : ℕ) {b c d : ℕ} (v1 : b ≡ vertex E k 1) (v2 : c ≡ vertex E k 2) (v3 : d ≡ vertex E k 3) where
-  third-taken : third E k ≡ faceTaken E (4 * k) b c || (faceTaken E (4 * k) b d || (faceTaken E (4 * k) c d || faceTaken E (4 * k + 1) c d))
-  unfolding third
-  third-taken =
-      let f : (4 * k) / 4 ≡ k = omega arith in
-      let g : (4 * k + 1) / 4 ≡ k = omega arith in
-      rw (v1, v2, v3, f, g, add-zero)
+-- one of three tests made first as well changes nothing
+second-again : (a b c : Bool) → b && (a && (b && c)) ≡ a && (b && c)
+second-again a true c = refl
+second-again a false c = sym (and-false a)
 
-  pub third-first : {t : Bool} → t ≡ faceTaken E (4 * k) b c → t ≡ true → true ≡ third E k
-  third-first e p = rw (third-taken, ← e, p)
+third-again : (a b c : Bool) → c && (a && (b && c)) ≡ a && (b && c)
+third-again a b c = rw (and-comm b c) (second-again a c b)
 
-  pub third-second : {t : Bool} → t ≡ faceTaken E (4 * k) b d → t ≡ true → true ≡ third E k
-  third-second e p = rw (third-taken, ← e, p, or-true)
+one-again : (f : ℕ → Bool) {l m p q r : ℕ} → (l ≡ p) ⊎ (l ≡ q) → (m ≡ l) ⊎ (m ≡ r) → f m && (f p && (f q && f r)) ≡ f p && (f q && f r)
+one-again f {p = p} {q} {r} (inl e) (inl g) = rw (g, e) (and-self-left (f p) (f q && f r))
+one-again f {p = p} {q} {r} (inr e) (inl g) = rw (g, e) (second-again (f p) (f q) (f r))
+one-again f {p = p} {q} {r} e (inr g) = rw g (third-again (f p) (f q) (f r))
 
-  pub third-third : {t : Bool} → t ≡ faceTaken E (4 * k) c d → t ≡ true → true ≡ third E k
-  third-third e p = rw (third-taken, ← e, p, or-true, or-true)
+module _ (E : List ℕ) (k : ℕ) where
+  -- an element before k has the same vertices exactly if the number counted from place m of k is over 0
+  pub same-counted : {n p q m a b c : ℕ} → Chosen p q m → a ≡ vertex E k ((m + 1) % 4) → b ≡ vertex E k ((m + 2) % 4) → c ≡ vertex E k ((m + 3) % 4) → n ≡ count (λ j. has E j (vertex E k m) && (has E j a && (has E j b && has E j c))) ((4 * k + m) / 4) → ltb 0 n ≡ same E k
+  unfolding same
+  same-counted {m = m} s u v w e =
+      let f : (4 * k + m) / 4 ≡ k = omega arith in
+      rw (e, u, v, w, f, any-count, count-same _ _ k (λ j l. all-turned (λ i. has E j (vertex E k i)) m (s .low)))
 
-  pub third-last : {t u v w : Bool} → t ≡ faceTaken E (4 * k) b c → t ≡ false → u ≡ faceTaken E (4 * k) b d → u ≡ false → v ≡ faceTaken E (4 * k) c d → v ≡ false → w ≡ faceTaken E (4 * k + 1) c d → w ≡ third E k
-  third-last e p f q g r h = rw (third-taken, ← e, p, ← f, q, ← g, r) h
-
--- b named twice is b
-pub face-three : (E : List ℕ) (s a b : ℕ) {n : ℕ} → n ≡ count (λ j. has E j (slot E s) && (has E j a && (has E j b && has E j b))) (s / 4) → ltb 1 n ≡ faceTaken E s a b
-face-three E s a b e = rw e (simp and-self)
+  -- two elements before k hold its face of the places p, q and r exactly if the number counted from one of them is over 1
+  pub face-counted : {n l m p q r a b c : ℕ} → Chosen p q l → Chosen l r m → a ≡ vertex E k p → b ≡ vertex E k q → c ≡ vertex E k r → n ≡ count (λ j. has E j (vertex E k m) && (has E j a && (has E j b && has E j c))) ((4 * k + m) / 4) → ltb 1 n ≡ leb 2 (before E k (vertex E k p) (vertex E k q) (vertex E k r))
+  face-counted {m = m} s t u v w e =
+      let f : (4 * k + m) / 4 ≡ k = omega arith in
+      rw (e, u, v, w, f, count-same _ _ k (λ j i. one-again (λ o. has E j (vertex E k o)) (s .one) (t .one)))

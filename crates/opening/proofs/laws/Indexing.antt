@@ -2,7 +2,7 @@
 use mathlib.Core.Path.{_≡_, refl, sym, _∙_, ap}
 use mathlib.Core.Logic.{inl, inr}
 use mathlib.Core.List.{List}
-use Prim.Native.Nat.{ℕ, _+_, _<_}
+use Prim.Native.Nat.{ℕ, _+_, _≤_, _<_}
 use native.Mathlib.Omega.{arith}
 use lib.ListN.{length, getD, replicate, length-replicate, getD-replicate, List·getD-eq-default}
 use Rattle.split.proofs.laws.Places.{le-or-lt}
@@ -10,7 +10,12 @@ use Rattle.chain.specs.Chain.{Indexed, pushed}
 use Rattle.chain.proofs.laws.Pushed.{pushed-length, pushed-beyond}
 use Rattle.chain.proofs.laws.Index.{indexed-none, indexed-push-one}
 use Rattle.opening.specs.Colours.{colours}
-use Rattle.opening.specs.Scratch.{linksAt, coloursAt, scratchLength, slot, Plain, Blank, Ready, Painted}
+use Rattle.opening.specs.Scratch.{linksAt, coloursAt, scratchLength, slot, Plain, Blank, Ready, Painted, bumped}
+use Rattle.opening.proofs.laws.Uses.{bumped-length, bumped-under, bumped-over}
+
+-- numbers behind the links do not matter to the index
+pub indexed-kept : {key : ℕ → ℕ} {n base : ℕ} {index next : List ℕ} → length next ≡ length index → ((j : ℕ) → j < base + n → getD next j 0 ≡ getD index j 0) → Indexed key n base index → Indexed key n base next
+indexed-kept {base = base} l same x = record { room = rw l (x .room); heads = λ v h. same v (omega arith) ∙ x .heads v h; links = λ i h. same (base + i) (omega arith) ∙ x .links i h }
 
 -- the first i slots are pushed
 pub record Filling (E : List ℕ) (i : ℕ) (scratch : List ℕ) : Type 0 where
@@ -34,7 +39,7 @@ blank E scratch n b e =
 pub filling-start : {E scratch : List ℕ} → Blank scratch → Filling E 0 scratch
 filling-start {E} {scratch} b = blank E scratch scratchLength b refl
 
-pub filling-push : {vertices : ℕ} {E scratch next : List ℕ} {i key : ℕ} → Plain vertices E → Filling E i scratch → i < length E → key ≡ slot E i → next ≡ pushed scratch linksAt i key → Filling E (i + 1) next
+filling-push : {vertices : ℕ} {E scratch next : List ℕ} {i key : ℕ} → Plain vertices E → Filling E i scratch → i < length E → key ≡ slot E i → next ≡ pushed scratch linksAt i key → Filling E (i + 1) next
 filling-push {E = E} {scratch} {i = i} x f h k e =
     rw (e, k)
     (record {
@@ -42,6 +47,20 @@ filling-push {E = E} {scratch} {i = i} x f h k e =
       index = indexed-push-one (f .index) (omega (arith, x .there i h)) (omega arith) (omega arith);
       clear = λ u. pushed-beyond scratch linksAt i (slot E i) (coloursAt + u) (omega arith) ∙ f .clear u;
     })
+
+-- one use more is counted
+filling-bump : {E scratch next : List ℕ} {i : ℕ} (v : ℕ) → Filling E i scratch → i ≤ 400000 → next ≡ bumped scratch v → Filling E i next
+filling-bump {scratch = scratch} v f h e =
+    rw e
+    (record {
+      size = bumped-length scratch v ∙ f .size;
+      index = indexed-kept (bumped-length scratch v) (λ j l. bumped-under scratch v j (omega arith)) (f .index);
+      clear = λ u. bumped-over scratch v (coloursAt + u) (omega arith) ∙ f .clear u;
+    })
+
+-- one turn of the loop
+pub filling-next : {vertices : ℕ} {E scratch middle next : List ℕ} {i key : ℕ} → Plain vertices E → Filling E i scratch → i < length E → key ≡ slot E i → middle ≡ pushed scratch linksAt i key → next ≡ bumped middle key → Filling E (i + 1) next
+filling-next {key = key} x f h k e = filling-bump key (filling-push x f h k e) (omega (arith, x .few))
 
 -- all pushed
 pub filling-ready : {E scratch : List ℕ} {i : ℕ} → Filling E i scratch → i ≡ length E → Ready E scratch

@@ -89,7 +89,7 @@ module _ (F : List Float) (E : List ℕ) where
 
 -- ---- tests 6 to 8
 
-pub judged-refused : {vertices n p : ℕ} {E scratch : List ℕ} → late E vertices ≡ Refused n p → length scratch ≡ 440000 → Judged vertices E (Refused n p) scratch
+pub judged-refused : {vertices n p : ℕ} {E scratch : List ℕ} → late E vertices ≡ Refused n p → length scratch ≡ 460000 → Judged vertices E (Refused n p) scratch
 judged-refused e s = record { answer = sym e; size = s; painted = λ h. clash refl h }
 
 pub judged-coloured : {vertices : ℕ} {E scratch : List ℕ} {f : Found} {r : Verdict} → first (same E) (length E / 4) ≡ Nowhere → first (third E) (length E / 4) ≡ Nowhere
@@ -107,16 +107,16 @@ judged-coloured {vertices} {E} {scratch} {f} a b c e =
 sized : (n : ℕ) (l : List ℕ) → l ≡ replicate n 0 → length l ≡ n
 sized n l e = rw (e, length-replicate)
 
-pub blank-size : {scratch : List ℕ} → Blank scratch → length scratch ≡ 440000
-blank-size {scratch} b = sized 440000 scratch b
+pub blank-size : {scratch : List ℕ} → Blank scratch → length scratch ≡ 460000
+blank-size {scratch} b = sized 460000 scratch b
 
 module _ (F : List Float) (E : List ℕ) (points records rows : ℕ) where
-  pub settled-lengths : {n p : ℕ} {scratch : List ℕ} → fitting (length F) (length E) points records rows Passed ≡ Refused n p → length scratch ≡ 440000
+  pub settled-lengths : {n p : ℕ} {scratch : List ℕ} → fitting (length F) (length E) points records rows Passed ≡ Refused n p → length scratch ≡ 460000
       → Settled F E points records rows (Refused n p) scratch
   unfolding judged
   settled-lengths {n} {p} e s = record { answer = sym (lengths-refused (length F) (length E) points records rows _ n p e); size = s; storable = λ h. clash refl h }
 
-  pub settled-numbers : {n p : ℕ} {scratch : List ℕ} → fitting (length F) (length E) points records rows Passed ≡ Passed → plain F E Passed ≡ Refused n p → length scratch ≡ 440000
+  pub settled-numbers : {n p : ℕ} {scratch : List ℕ} → fitting (length F) (length E) points records rows Passed ≡ Passed → plain F E Passed ≡ Refused n p → length scratch ≡ 460000
       → Settled F E points records rows (Refused n p) scratch
   unfolding judged
   settled-numbers {n} {p} l e s =

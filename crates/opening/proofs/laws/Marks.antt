@@ -10,7 +10,7 @@ use lib.Dec.{ltb}
 use lib.ListN.{length, getD, set, length-set, getD-replicate, List·getD-eq-default}
 use lib.Seq.{set-out, getD-set-same, getD-set-other}
 use Rattle.chain.specs.Chain.{latest}
-use Rattle.chain.proofs.laws.Walk.{latest-hit, latest-miss, latest-below, latest-some}
+use Rattle.chain.proofs.laws.Walk.{latest-between, latest-below, latest-some}
 use Rattle.chain.proofs.laws.Index.{next-link}
 use Rattle.opening.specs.Causes.{vertex, has}
 use Rattle.opening.specs.Colours.{taken, colours}
@@ -133,16 +133,6 @@ shown-kept : (E scratch : List ℕ) (v k j : ℕ) (flags : List ℕ) → Shown E
 shown-kept E scratch v k j flags s q h l = marked-all E scratch v j (λ f. getD f (colourIn scratch (vertex E k q)) 0 ≡ 1) (λ p b f e. marked-keeps scratch v (vertex E j p) f _ e) flags (s q h l)
 
 -- ---- the walk
-
--- between a place and the last one before it there is none
-latest-between : (key : ℕ → ℕ) (v n i : ℕ) → latest key v n ≤ i → i < n → key i ≡ v → ⊥
-latest-between key v zero i l h e = omega arith
-latest-between key v (suc n) i l h e = go (ℕ-discrete (key n) v) (ℕ-discrete i n) (latest-between key v n i)
-  where
-    go : Dec (key n ≡ v) → Dec (i ≡ n) → (latest key v n ≤ i → i < n → key i ≡ v → ⊥) → ⊥
-    go (yes k) q f = omega (arith, latest-hit key v n k)
-    go (no k) (yes q) f = k (rw q at e)
-    go (no k) (no q) f = f (omega (arith, latest-miss key v n k)) (omega arith) e
 
 -- slot i is at place i % 4 of element i / 4
 slot-at : (E : List ℕ) (i : ℕ) → vertex E (i / 4) (i % 4) ≡ slot E i

@@ -10,7 +10,8 @@ use lib.Seq.{getD-set-same, getD-set-other}
 use Rattle.opening.specs.declared.answer.Found.the-variants.{At, Nowhere}
 use Rattle.opening.specs.Search.{first}
 use Rattle.opening.specs.Colours.{taken, colours, colourOf, garish, largest}
-use Rattle.opening.specs.Scratch.{linksAt, coloursAt, colourIn, Plain, Ready, Painted, Marks, unmarked, Coloured}
+use Rattle.opening.specs.Scratch.{coloursAt, colourIn, Plain, Ready, Painted, Marks, unmarked, Coloured}
+use Rattle.opening.proofs.laws.Indexing.{indexed-kept}
 use Rattle.opening.proofs.laws.Search.{first-start, first-passed, first-stopped}
 use Rattle.opening.proofs.laws.Free.{flagged, free-min, unmarked-free}
 use Rattle.opening.proofs.laws.Colours.{colours-at, colours-out, taken-last, largest-step}
@@ -36,10 +37,7 @@ pub record Colouring (vertices : ℕ) (E : List ℕ) (v : ℕ) (scratch : List �
 module _ (E scratch : List ℕ) (v c : ℕ) where
   -- a colour stands beyond the heads and the links
   ready-set : length E ≤ 400000 → Ready E scratch → Ready E (set scratch (coloursAt + v) c)
-  ready-set few r = record { size = length-set scratch (coloursAt + v) c ∙ r .size; index = record { room = rw length-set (r .index .room); heads = λ u h. other u (omega arith) ∙ r .index .heads u h; links = λ i h. other (linksAt + i) (omega arith) ∙ r .index .links i h } }
-    where
-      other : (j : ℕ) → j < coloursAt → getD (set scratch (coloursAt + v) c) j 0 ≡ getD scratch j 0
-      other j h = getD-set-other scratch (coloursAt + v) j c 0 (omega arith)
+  ready-set few r = record { size = length-set scratch (coloursAt + v) c ∙ r .size; index = indexed-kept (length-set scratch (coloursAt + v) c) (λ j h. getD-set-other scratch (coloursAt + v) j c 0 (omega arith)) (r .index) }
 
   painted-set : coloursAt + v < length scratch → Painted E v scratch → c ≡ colourOf E v → c ≤ 63 → Painted E (v + 1) (set scratch (coloursAt + v) c)
   painted-set room p e small = record { colour = λ u. at u (ℕ-discrete u v); small = λ u h. under u h (ℕ-discrete u v) }

@@ -1,15 +1,33 @@
--- `opening::faces::same_before` meets its contract: there is one exactly if the walk counts one. Assumes nothing.
+-- `opening::faces::same_before` meets its contract: wherever the walk begins, there is one exactly if it counts one. Assumes nothing.
 use native.Mathlib.Omega.{arith}
 use borrow.Author.Needs.{needs}
 use Rattle.opening.proofs.laws.Faces.{same-counted}
 use Rattle.opening.proofs.faces.same_before.Statement.{statement}
 use Rattle.opening.proofs.faces.same_before.Tie as tie
 
+rarer-requires : tie.Need-rarer-requires
+rarer-requires c κs = search needs
+
+rarer-requires-2 : tie.Need-rarer-requires-2
+rarer-requires-2 c κs = search needs
+
+rarer-requires-3 : tie.Need-rarer-requires-3
+rarer-requires-3 c κs = search needs
+
+add-vertex-at : tie.Need-add-vertex-at
+add-vertex-at c = search needs
+
 vertex-at-requires : tie.Need-vertex-at-requires
 vertex-at-requires c κs = search needs
 
+add-vertex-at-2 : tie.Need-add-vertex-at-2
+add-vertex-at-2 c = search needs
+
 vertex-at-requires-2 : tie.Need-vertex-at-requires-2
 vertex-at-requires-2 c κs = search needs
+
+add-vertex-at-3 : tie.Need-add-vertex-at-3
+add-vertex-at-3 c = search needs
 
 vertex-at-requires-3 : tie.Need-vertex-at-requires-3
 vertex-at-requires-3 c κs = search needs
@@ -17,19 +35,29 @@ vertex-at-requires-3 c κs = search needs
 mul-earlier : tie.Need-mul-earlier
 mul-earlier c = search needs
 
+add-earlier : tie.Need-add-earlier
+add-earlier c = search needs
+
 earlier-requires : tie.Need-earlier-requires
 earlier-requires c κs = (search needs, (search needs, omega arith))
 
 returns : tie.Need-returns
-returns c = same-counted _ _ (c .before .before .before .vertex-at .ensures) (c .before .before .vertex-at2 .ensures) (c .before .vertex-at3 .ensures) (c .earlier .ensures)
+returns c = same-counted _ _ (c .before .before .before .before .rarer3 .ensures) (c .before .before .before .vertex-at .ensures) (c .before .before .vertex-at2 .ensures) (c .before .vertex-at3 .ensures) (c .earlier .ensures)
 
 pub same-before-spec : {M : Type 1} → statement M
 same-before-spec =
     tie.close
     (tie.spec
+    rarer-requires
+    rarer-requires-2
+    rarer-requires-3
+    add-vertex-at
     vertex-at-requires
+    add-vertex-at-2
     vertex-at-requires-2
+    add-vertex-at-3
     vertex-at-requires-3
     mul-earlier
+    add-earlier
     earlier-requires
     returns)

@@ -3,7 +3,7 @@ use Prim.Native.Nat.{_≤_, _-_}
 use native.Mathlib.Omega.{arith}
 use borrow.Author.Needs.{needs}
 use lib.ListN.{length}
-use Rattle.opening.proofs.laws.Indexing.{Filling, filling-start, filling-push, filling-ready, filling-painted, filling-length}
+use Rattle.opening.proofs.laws.Indexing.{Filling, filling-start, filling-next, filling-ready, filling-painted, filling-length}
 use Rattle.opening.proofs.index.fill.Statement.{statement}
 use Rattle.opening.proofs.index.fill.Tie as tie
 
@@ -28,6 +28,9 @@ wide-requires c κs = search needs
 push-requires : tie.Need-push-requires Inv-loop μ-loop
 push-requires c κs = search needs
 
+bump-requires : tie.Need-bump-requires Inv-loop μ-loop
+bump-requires c κs = search needs
+
 add-i : tie.Need-add-i Inv-loop μ-loop
 add-i c = search needs
 
@@ -35,7 +38,7 @@ loop-less : tie.Need-loop-less Inv-loop μ-loop
 loop-less c = search needs
 
 loop-again : tie.Need-loop-again Inv-loop μ-loop
-loop-again c = (search needs, filling-push (c .before .before .before .before .before .before .before .before .before .before .pre .0) (c .before .before .before .before .before .before .before .loop .inv .1) (c .before .before .before .before .before .before .loop-test .taken) (c .before .before .before .wide .ensures) (c .before .before .push .ensures))
+loop-again c = (search needs, filling-next (c .before .before .before .before .before .before .before .before .before .before .before .before .before .before .pre .0) (c .before .before .before .before .before .before .before .before .before .before .before .loop .inv .1) (c .before .before .before .before .before .before .before .before .before .before .loop-test .taken) (c .before .before .before .before .before .before .before .before .wide .ensures) (c .before .before .before .before .before .before .push .ensures) (c .before .before .bump .ensures))
 
 same-length : tie.Need-same-length Inv-loop μ-loop
 same-length c = filling-length (c .before .before .before .before .pre .1) (c .before .loop .inv .1)
@@ -54,6 +57,7 @@ fill-spec =
     shared-slice-read-wide
     wide-requires
     push-requires
+    bump-requires
     add-i
     loop-less
     loop-again

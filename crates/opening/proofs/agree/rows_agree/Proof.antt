@@ -1,0 +1,62 @@
+-- `opening::agree::rows_agree` meets its contract. The invariant: the rows before `k` agree. Assumes nothing.
+use Prim.Native.Nat.{_-_}
+use borrow.Author.Needs.{needs}
+use borrow.Author.Tests.{not-true, not-false}
+use Rattle.tables.specs.Layout.{rowAt}
+use Rattle.opening.specs.Order.{rootOf}
+use Rattle.opening.specs.Scratch.{colourIn}
+use Rattle.opening.specs.Agree.{sameRoot, rowsAgree}
+use Rattle.opening.proofs.laws.Agree.{Agreeing, agreeing-start, agreeing-on, agreeing-stop, agreeing-end}
+use Rattle.opening.proofs.agree.rows_agree.Statement.{statement}
+use Rattle.opening.proofs.agree.rows_agree.Tie as tie
+
+abbrev Inv-loop : tie.InvT-loop
+Inv-loop elements scratch vertices n rows count k₀ k = Agreeing (λ k. sameRoot (rowAt rows k) (rootOf n (colourIn scratch) elements k)) count k
+
+abbrev μ-loop : tie.MeasureT-loop
+μ-loop elements scratch vertices n rows count k₀ k = count - k
+
+loop-holds : tie.Need-loop-holds Inv-loop μ-loop
+loop-holds c = agreeing-start
+
+read-requires : tie.Need-read-requires Inv-loop μ-loop
+read-requires c κs = search needs
+
+root-row-requires : tie.Need-root-row-requires Inv-loop μ-loop
+root-row-requires c κs = (c .before .before .before .before .before .before .pre .0, (search needs, (search needs, search needs)))
+
+same-root-requires : tie.Need-same-root-requires Inv-loop μ-loop
+same-root-requires c κs = search needs
+
+returns : tie.Need-returns Inv-loop μ-loop
+unfolding rowsAgree
+returns c = agreeing-stop (c .before .before .before .before .before .loop .inv) {r = c .before .same-root .result} (search needs) (cc) (not-true _ (c .if1 .taken))
+
+add-k : tie.Need-add-k Inv-loop μ-loop
+add-k c = search needs
+
+loop-less : tie.Need-loop-less Inv-loop μ-loop
+loop-less c = search needs
+
+loop-again : tie.Need-loop-again Inv-loop μ-loop
+loop-again c = agreeing-on (c .before .before .before .before .before .loop .inv) {r = c .before .same-root .result} (search needs) (cc) (not-false _ (c .if1 .left))
+
+returns-2 : tie.Need-returns-2 Inv-loop μ-loop
+unfolding rowsAgree
+returns-2 c = agreeing-end (c .before .loop .inv) (search needs)
+
+pub rows-agree-spec : {M : Type 1} → statement M
+rows-agree-spec =
+    tie.close
+    (tie.spec
+    Inv-loop
+    μ-loop
+    loop-holds
+    read-requires
+    root-row-requires
+    same-root-requires
+    returns
+    add-k
+    loop-less
+    loop-again
+    returns-2)

@@ -1,0 +1,116 @@
+// Whether tables hold what opening would give: the same colours and, but for the first child, the same rows.
+use crate::answer::Verdict;
+use crate::colours::largest_colour;
+use crate::index::SCRATCH;
+use crate::judge::judge;
+use crate::order::root_row;
+use crate::store::initial_record;
+use split::row::Row;
+use tables::record::Record;
+ghost use mathlib.Core.Path.{_≡_};
+ghost use mathlib.Core.List.{List};
+ghost use Prim.Native.Nat.{ℕ, _*_, _/_, _≤_};
+ghost use lib.ListN.{length};
+ghost use Rattle.opening.specs.Agree.{sameRecord, sameRoot, recordsAgree, rowsAgree, agreed};
+ghost use Rattle.opening.specs.Scratch.{Plain, colourIn, scratchLength};
+
+fn same_record(a: Record, b: Record) -> bool
+    ensures { λ r. ⌜ r ≡ sameRecord a b ⌝ }
+{
+    if a.first == b.first {
+        return a.second == b.second;
+    }
+    false
+}
+
+// Two rows but for the first child.
+fn same_root(a: Row, b: Row) -> bool
+    ensures { λ r. ⌜ r ≡ sameRoot a b ⌝ }
+{
+    if a.v0 != b.v0 {
+        return false;
+    }
+    if a.v1 != b.v1 {
+        return false;
+    }
+    if a.v2 != b.v2 {
+        return false;
+    }
+    if a.v3 != b.v3 {
+        return false;
+    }
+    if a.tag != b.tag {
+        return false;
+    }
+    if a.parent != b.parent {
+        return false;
+    }
+    a.depth == b.depth
+}
+
+fn records_agree(scratch: &[u32], vertices: usize, records: &[u32]) -> bool
+    requires { ⌜ length (now scratch) ≡ scratchLength ⌝ }
+    requires { ⌜ vertices ≤ 20000 ⌝ }
+    ensures { λ r. ⌜ r ≡ recordsAgree (colourIn (now (scratch .entry))) (now (records .entry)) vertices ⌝ }
+{
+    let mut v = 0usize;
+    while v < vertices {
+        let held = tables::record::read(records, v);
+        if !same_record(held, initial_record(scratch, v)) {
+            return false;
+        }
+        v += 1;
+    }
+    true
+}
+
+fn rows_agree(elements: &[u32], scratch: &[u32], vertices: usize, n: u32, rows: &[u32]) -> bool
+    requires { ⌜ Plain vertices (now elements) ⌝ }
+    requires { ⌜ length (now scratch) ≡ scratchLength ⌝ }
+    ensures { λ r. ⌜ r ≡ rowsAgree n (colourIn (now (scratch .entry))) (now (elements .entry)) (now (rows .entry)) (length (now (elements .entry)) / 4) ⌝ }
+{
+    let count = elements.len() / 4;
+    let mut k = 0usize;
+    while k < count {
+        let held = tables::row::read(rows, k);
+        if !same_root(held, root_row(elements, scratch, vertices, n, k)) {
+            return false;
+        }
+        k += 1;
+    }
+    true
+}
+
+// Whether opening these coordinates and elements is accepted, in tables of just that room, and gives the records and, but for the first child, the rows of the tables.
+pub fn agrees(coordinates: &[f64], elements: &[u32], records: &[u32], rows: &[u32]) -> bool
+    ensures { λ r. ⌜ r ≡ agreed (now (coordinates .entry)) (now (elements .entry)) (now (records .entry)) (now (rows .entry)) ⌝ }
+{
+    if 60000 < coordinates.len() {
+        return false;
+    }
+    if 400000 < elements.len() {
+        return false;
+    }
+    let vertices = coordinates.len() / 3;
+    let count = elements.len() / 4;
+    let mut scratch = [0u32; SCRATCH];
+    let verdict = judge(
+        coordinates,
+        elements,
+        3 * vertices,
+        2 * vertices,
+        8 * count,
+        &mut scratch,
+    );
+    if let Verdict::Refused {
+        number: _,
+        place: _,
+    } = verdict {
+        return false;
+    }
+    if !records_agree(&scratch, vertices, records) {
+        return false;
+    }
+    let n = largest_colour(elements, &scratch, vertices);
+    rows_agree(elements, &scratch, vertices, n, rows)
+}

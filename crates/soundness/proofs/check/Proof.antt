@@ -1,0 +1,46 @@
+use lib.Dec.{lit≤}
+use Rattle.soundness.proofs.laws.Deciding.{decides-false, refused, granted}
+use borrow.Author.Needs.{needs}
+use Rattle.soundness.proofs.check.Statement.{statement}
+use Rattle.soundness.proofs.check.Tie as tie
+
+fits-requires : tie.Need-fits-requires
+fits-requires c κs = search needs
+
+returns : tie.Need-returns
+returns c = decides-false (λ s. refused (c .before .fits2 .ensures) (c .if1 .taken) (s .fitting))
+
+unused-zero-requires : tie.Need-unused-zero-requires
+unused-zero-requires c κs = granted (c .before .fits2 .ensures) (c .if1 .left)
+
+returns-2 : tie.Need-returns-2
+returns-2 c = decides-false (λ s. refused (c .before .unused-zero .ensures) (c .if2 .taken) (s .unused))
+
+initials-requires : tie.Need-initials-requires
+initials-requires c κs = search needs
+
+roots-requires : tie.Need-roots-requires
+roots-requires c κs = search needs
+
+slice-aggregate-judge : tie.Need-slice-aggregate-judge
+slice-aggregate-judge c = search needs
+
+judge-requires : tie.Need-judge-requires
+judge-requires c κs = (record { fitting = granted (c .before .before .before .before .before .before .fits2 .ensures) (c .before .before .before .before .before .if1 .left); unused = granted (c .before .before .before .before .unused-zero .ensures) (c .before .before .before .if2 .left); initials = c .before .before .initials .ensures; roots = c .before .roots .ensures }, lit≤ tt)
+
+returns-3 : tie.Need-returns-3
+returns-3 c = search needs
+
+pub check-spec : {M : Type 1} → statement M
+check-spec =
+    tie.close
+    (tie.spec
+    fits-requires
+    returns
+    unused-zero-requires
+    returns-2
+    initials-requires
+    roots-requires
+    slice-aggregate-judge
+    judge-requires
+    returns-3)

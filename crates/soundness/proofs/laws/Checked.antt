@@ -1,0 +1,338 @@
+-- The clauses as the parts of the check find them, against sound tables: each gives the other, where the leading runs end.
+use mathlib.Core.Path.{_≡_, sym, ap, _∙_}
+use mathlib.Core.List.{List, []}
+use mathlib.Core.Logic.{inl, inr}
+use Prim.Native.Nat.{ℕ, _*_, _/_, _%_, _≤_, _<_}
+use native.Mathlib.Omega.{arith}
+use lib.ListN.{length, getD}
+use lib.Seq.{length-take-le, getD-take}
+use lib.Ieee.{Float}
+use borrow.Author.Tests.{ltb-false}
+use Rattle.split.specs.Split.{Tag, Side, Corners, far, child, Holds}
+use Rattle.split.specs.Row.{cornersOf, tagOf, edgeOf, pair}
+use Rattle.split.specs.Midpoint.{between}
+use Rattle.split.proofs.laws.Places.{le-or-lt, less, equal, more, against}
+use Rattle.split.proofs.laws.Children.{at-new, far-at}
+use Rattle.split.proofs.laws.Rows.{vertices-step}
+use Rattle.tables.specs.declared.layout.Counts.{Counts}
+use Rattle.tables.specs.declared.record.Record.{Record}
+use Rattle.tables.specs.Layout.{noPoint, noRecord, noRow, pointAt, recordAt, rowAt}
+use Rattle.tables.specs.Mesh.{Mesh, meshOf}
+use Rattle.tables.proofs.laws.View.{length-up-to, up-to-at}
+use Rattle.opening.specs.Colours.{colours, colourOf, garish}
+use Rattle.opening.specs.Opening.{initial, openedMesh}
+use Rattle.opening.proofs.laws.Search.{first-none}
+use Rattle.opening.proofs.laws.Colours.{colours-at}
+use Rattle.soundness.specs.Sound.{vertices, rows, pointOf, recordOf, rowOf, Parted, givenPoints, givenElements, Afresh, Child, Parent, Midpoint, Grown, Conforming, Fitting, Sound}
+use Rattle.soundness.specs.Check.{lent, Initials, Roots, Children, Parents, Ruled, smaller, Keyed, middleAt, corner, Cornered, Apart, Clauses}
+use Rattle.soundness.proofs.laws.Fitted.{fitting-inside}
+use Rattle.soundness.proofs.laws.Placed.{placed}
+use Rattle.soundness.proofs.laws.Tested.{tested}
+
+-- ---- what the mesh of lent tables has at a number
+
+module _ (p : List Float) (r w : List ℕ) (c : Counts) where
+  pub vertices-is : vertices (meshOf (lent p r w) c) ≡ c .vertices
+  unfolding meshOf
+  vertices-is = length-up-to (recordAt r) (c .vertices)
+
+  pub rows-is : rows (meshOf (lent p r w) c) ≡ c .rows
+  unfolding meshOf
+  rows-is = length-up-to (rowAt w) (c .rows)
+
+  pub point-is : (v : ℕ) → v < c .vertices → pointOf (meshOf (lent p r w) c) v ≡ pointAt p v
+  unfolding meshOf
+  point-is v h = up-to-at (pointAt p) (c .vertices) v noPoint h
+
+  pub record-is : (v : ℕ) → v < c .vertices → recordOf (meshOf (lent p r w) c) v ≡ recordAt r v
+  unfolding meshOf
+  record-is v h = up-to-at (recordAt r) (c .vertices) v noRecord h
+
+  pub row-is : (k : ℕ) → k < c .rows → rowOf (meshOf (lent p r w) c) k ≡ rowAt w k
+  unfolding meshOf
+  row-is k h = up-to-at (rowAt w) (c .rows) k noRow h
+
+  -- ---- clauses on records and rows ask nothing of the points, those on rows nothing of the records
+
+  child-points : (l : List Float) {i k : ℕ} → Child (meshOf (lent p r w) c) i k → Child (meshOf (lent l r w) c) i k
+  unfolding meshOf
+  child-points l d = record {
+    older = d .older;
+    split = d .split;
+    side = d .side;
+    here = d .here;
+    vertex = d .vertex;
+    middle = record { midpoint = d .middle .midpoint; there = d .middle .there; ends = d .middle .ends };
+    is = d .is;
+    shallow = d .shallow;
+  }
+
+  parent-others : (l : List Float) (s : List ℕ) {t q : ℕ} → Parent (meshOf (lent p r w) c) t q → Parent (meshOf (lent l s w) c) t q
+  unfolding meshOf
+  parent-others l s d = record { later = d .later; past = d .past; both = d .both; first = d .first; second = d .second }
+
+  pub children-points : (l : List Float) {i t : ℕ} → Children (meshOf (lent p r w) c) i t → Children (meshOf (lent l r w) c) i t
+  unfolding meshOf
+  children-points l f k h b = child-points l (f k h b)
+
+  pub parents-others : (l : List Float) (s : List ℕ) {t : ℕ} → Parents (meshOf (lent p r w) c) t → Parents (meshOf (lent l s w) c) t
+  unfolding meshOf
+  parents-others l s f q h n = parent-others l s (f q h n)
+
+-- ---- the midpoint at which a child was made stands in it at its parent's tag
+
+far-new : (s : Side) (g : Tag) (c : Corners ℕ) (v : ℕ) → far g (child s g c v) ≡ v
+far-new s g c v = sym (far-at (child s g c v) g) ∙ at-new c v s g
+
+-- a record is its two numbers
+record-same : (a b : Record) → pair (a .first) (a .second) ≡ pair (b .first) (b .second) → a ≡ b
+record-same a b e = λ j. record { first = e j .small; second = e j .large }
+
+module _ (m : Mesh) where
+  abbrev middleIn : ℕ → ℕ
+  middleIn k = far (tagOf (rowOf m (rowOf m k .parent))) (cornersOf (rowOf m k))
+
+  middle-vertex : {i k : ℕ} (d : Child m i k) → middleIn k ≡ d .vertex
+  middle-vertex {i} {k} d =
+      let q = rowOf m k .parent in
+      ap (far (tagOf (rowOf m q))) (ap cornersOf (d .is) ∙ vertices-step (d .side) (rowOf m q) q (d .vertex)) ∙ far-new (d .side) (tagOf (rowOf m q)) (cornersOf (rowOf m q)) (d .vertex)
+
+  -- row k was made at v
+  record Made (t v k : ℕ) : Type 0 where
+    past : t ≤ k
+    there : k < rows m
+    is : middleIn k ≡ v
+
+module _ {m : Mesh} {i t : ℕ} where
+  -- a row that was made at v has a split parent whose edge v records
+  midpoint-made : Children m i t → (v k : ℕ) → Made m t v k → recordOf m v .first < recordOf m v .second → recordOf m v .second < v
+      → ((u : ℕ) → i ≤ u → u < vertices m → recordOf m u ≡ recordOf m v → u ≡ v) → pointOf m v ≡ between (pointOf m (recordOf m v .first)) (pointOf m (recordOf m v .second)) → Midpoint m i v
+  midpoint-made children v k made rising older only point =
+      let d = children k (made .past) (made .there) in
+      let at-v : d .vertex ≡ v = sym (middle-vertex m d) ∙ made .is in
+      record {
+        rising = rising;
+        older = older;
+        only = only;
+        row = rowOf m k .parent;
+        there = omega (arith, d .older, made .there);
+        split = d .split;
+        edge = rw at-v at (d .middle .ends);
+        point = point;
+      }
+
+  -- the first child of a midpoint's row was made at it
+  made-midpoint : Grown m i t → (v : ℕ) → i ≤ v → v < vertices m → (k : ℕ) × Made m t v k
+  made-midpoint g v h l =
+      let b = g .midpoint v h l in
+      let p = g .parent (b .row) (b .there) (b .split) in
+      let k = rowOf m (b .row) .child in
+      let inside : k < rows m = omega (arith, p .both) in
+      let d = g .child k (p .past) inside in
+      let same : recordOf m (d .vertex) ≡ recordOf m v = record-same (recordOf m (d .vertex)) (recordOf m v) (d .middle .ends ∙ ap (λ (q : ℕ). edgeOf (rowOf m q)) (p .first) ∙ sym (b .edge)) in
+      (k, record { past = p .past; there = inside; is = middle-vertex m d ∙ b .only (d .vertex) (d .middle .midpoint) (d .middle .there) same })
+
+-- ---- from the parts of the check to sound tables, and back
+
+module _ (p : List Float) (r w : List ℕ) (c : Counts) where
+  abbrev mesh : Mesh
+  mesh = meshOf (lent p r w) c
+
+  count-vertices : {v : ℕ} → v < vertices mesh → v < c .vertices
+  count-vertices h = rw (vertices-is p r w c) at h
+
+  have-vertices : {v : ℕ} → v < c .vertices → v < vertices mesh
+  have-vertices h = rw (vertices-is p r w c) h
+
+  count-rows : {k : ℕ} → k < rows mesh → k < c .rows
+  count-rows h = rw (rows-is p r w c) at h
+
+  have-rows : {k : ℕ} → k < c .rows → k < rows mesh
+  have-rows h = rw (rows-is p r w c) h
+
+  middle-is : (k : ℕ) → k < c .rows → rowAt w k .parent < c .rows → middleIn mesh k ≡ middleAt w k
+  middle-is k h l = rw (row-is p r w c k h, row-is p r w c (rowAt w k .parent) l)
+
+  module _ {i t : ℕ} (ini : Initials r (c .vertices) i) (roo : Roots w (c .rows) t) where
+    parted-of : Clauses p r w c i t → Parted mesh i t
+    parted-of f = record {
+      vertices-in = rw (vertices-is p r w c) (ini .within);
+      rows-in = rw (rows-is p r w c) (roo .within);
+      initial = λ v h. rw (record-is p r w c v (omega (arith, ini .within))) (ini .before v h);
+      midpoints = λ v h l e. let b = count-vertices l in f .midpoints v h b (rw (record-is p r w c v b) at e);
+      roots = λ k h. rw (row-is p r w c k (omega (arith, roo .within))) (roo .before k h);
+      children = λ k h l e. let b = count-rows l in f .later k h b (rw (row-is p r w c k b) at e);
+    }
+
+    only-of : Clauses p r w c i t → (v u : ℕ) → i ≤ v → v < c .vertices → i ≤ u → u < c .vertices → recordAt r u ≡ recordAt r v → u ≡ v
+    only-of f v u h l k b e = elim (against u v) [ less a ↦ absurd (f .single v h l u a e) | equal a ↦ a | more a ↦ absurd (f .single u k b v a (sym e)) ]
+
+    midpoint-of : Clauses p r w c i t → (v : ℕ) → i ≤ v → v < vertices mesh → Midpoint mesh i v
+    midpoint-of f v h l =
+        let b = count-vertices l in
+        let s = f .ruled v h b in
+        let e = record-is p r w c v b in
+        let (k, past, there, is) = f .used v h b in
+        let children = children-points [] r w c p (f .children) in
+        let older : rowOf mesh k .parent < k = children k past (have-rows there) .older in
+        let above : rowAt w k .parent < k = rw (row-is p r w c k there) at older in
+        midpoint-made children v k (record { past = past; there = have-rows there; is = middle-is k there (omega arith) ∙ is })
+        (rw e (s .rising)) (rw e (s .older))
+        (λ u g a x. let d = count-vertices a in only-of f v u h b g d (sym (record-is p r w c u d) ∙ x ∙ e))
+        (rw (e, point-is p r w c v b, point-is p r w c (recordAt r v .first) (omega (arith, s .rising, s .older)), point-is p r w c (recordAt r v .second) (omega (arith, s .older))) (s .point))
+
+  conforming-of : {i : ℕ} → ((v : ℕ) → i ≤ v → v < c .vertices → Apart w (c .rows) (recordAt r v .first) (recordAt r v .second)) → Conforming mesh i
+  conforming-of {i} apart = record { leaf = leaf }
+    where
+      leaf : (q v : ℕ) → q < rows mesh → rowOf mesh q .child ≡ 0 → i ≤ v → v < vertices mesh → Holds 3 (cornersOf (rowOf mesh q)) (recordOf mesh v .first) → Holds 3 (cornersOf (rowOf mesh q)) (recordOf mesh v .second) → ⊥
+      leaf q v h z k l a b =
+          let x = count-rows h in
+          let y = count-vertices l in
+          let at-q = row-is p r w c q x in
+          let at-v = record-is p r w c v y in
+          apart v k y .leaf q x (rw at-q at z) (rw (at-q, at-v) at a) (rw (at-q, at-v) at b)
+
+  -- ---- a leading run ends where the mesh is parted
+
+  vertices-run : {j u i : ℕ} → Parted mesh j u → Initials r (c .vertices) i → j ≡ i
+  vertices-run {j} {u} {i} d ini = elim (against j i) [
+    | less a ↦ let l : j < c .vertices = omega (arith, ini .within) in absurd (d .midpoints j (omega arith) (have-vertices l) (rw (record-is p r w c j l) (ini .before j a)))
+    | equal a ↦ a
+    | more a ↦ let l : i < c .vertices = omega (arith, d .vertices-in, vertices-is p r w c) in absurd (ini .ends l (rw (record-is p r w c i l) at (d .initial i a)))
+  ]
+
+  rows-run : {j u t : ℕ} → Parted mesh j u → Roots w (c .rows) t → u ≡ t
+  rows-run {j} {u} {t} d roo = elim (against u t) [
+    | less a ↦ let l : u < c .rows = omega (arith, roo .within) in absurd (d .children u (omega arith) (have-rows l) (rw (row-is p r w c u l) (roo .before u a)))
+    | equal a ↦ a
+    | more a ↦ let l : t < c .rows = omega (arith, d .rows-in, rows-is p r w c) in absurd (roo .ends l (rw (row-is p r w c t l) at (d .roots t a)))
+  ]
+
+  -- ---- clause 6 by the tables
+
+  module _ {i t : ℕ} (g : Grown mesh i t) (v : ℕ) (h : i ≤ v) (l : v < c .vertices) where
+    ruled-of : Ruled p r v
+    ruled-of =
+        let b = g .midpoint v h (have-vertices l) in
+        let e = record-is p r w c v l in
+        let rising : recordAt r v .first < recordAt r v .second = rw e at (b .rising) in
+        let older : recordAt r v .second < v = rw e at (b .older) in
+        record {
+          rising = rising;
+          older = older;
+          point = rw (e, point-is p r w c v l, point-is p r w c (recordAt r v .first) (omega arith), point-is p r w c (recordAt r v .second) (omega arith)) at (b .point);
+        }
+
+    -- an initial vertex has no parents, so its record is no midpoint's
+    single-of : (u : ℕ) → u < v → recordAt r u ≡ recordAt r v → ⊥
+    single-of u a e =
+        let b : u < c .vertices = omega arith in
+        let same : recordOf mesh u ≡ recordOf mesh v = record-is p r w c u b ∙ e ∙ sym (record-is p r w c v l) in
+        elim (le-or-lt i u) [
+          | inl k ↦ let x : u ≡ v = g .midpoint v h (have-vertices l) .only u k (have-vertices b) same in omega arith
+          | inr k ↦ g .parted .midpoints v h (have-vertices l) (ap (λ (x : Record). x .second) (sym same) ∙ g .parted .initial u k)
+        ]
+
+    used-of : (k : ℕ) × (t ≤ k) × (k < c .rows) × (middleAt w k ≡ v)
+    used-of =
+        let (k, made) = made-midpoint g v h (have-vertices l) in
+        let there = count-rows (made .there) in
+        let older : rowAt w k .parent < k = rw (row-is p r w c k there) at (g .child k (made .past) (made .there) .older) in
+        (k, made .past, there, sym (middle-is k there (omega arith)) ∙ made .is)
+
+module _ {p : List Float} {r w : List ℕ} {c : Counts} {i t : ℕ} where
+  pub grown-of : Initials r (c .vertices) i → Roots w (c .rows) t → Clauses p r w c i t → Grown (meshOf (lent p r w) c) i t
+  grown-of ini roo f = record {
+    parted = parted-of p r w c ini roo f;
+    afresh = f .afresh;
+    child = children-points [] r w c p (f .children);
+    parent = parents-others [] [] w c p r (f .parents);
+    midpoint = midpoint-of p r w c ini roo f;
+  }
+
+  pub sound-of : Initials r (c .vertices) i → Roots w (c .rows) t → Clauses p r w c i t
+      → ((v : ℕ) → i ≤ v → v < c .vertices → Apart w (c .rows) (recordAt r v .first) (recordAt r v .second)) → Sound (lent p r w) c
+  sound-of ini roo f apart = record {
+    fitting = f .fitting;
+    initials = i;
+    roots = t;
+    grown = grown-of ini roo f;
+    conforming = conforming-of p r w c apart;
+    unused = f .unused;
+  }
+
+  -- both are where the leading run ends
+  pub runs-of : (s : Sound (lent p r w) c) → Initials r (c .vertices) i → Roots w (c .rows) t → (s .initials ≡ i) × (s .roots ≡ t)
+  runs-of s ini roo = (vertices-run p r w c (s .grown .parted) ini, rows-run p r w c (s .grown .parted) roo)
+
+  grown-at : Sound (lent p r w) c → Initials r (c .vertices) i → Roots w (c .rows) t → Grown (meshOf (lent p r w) c) i t
+  grown-at s ini roo = let (e, f) = runs-of s ini roo in rw (e, f) at (s .grown)
+
+  pub clauses-of : Sound (lent p r w) c → Initials r (c .vertices) i → Roots w (c .rows) t → Clauses p r w c i t
+  clauses-of s ini roo =
+      let g = grown-at s ini roo in
+      record {
+        fitting = s .fitting;
+        unused = s .unused;
+        midpoints = λ v h l e. g .parted .midpoints v h (have-vertices p r w c l) (rw (record-is p r w c v l) e);
+        later = λ k h l e. g .parted .children k h (have-rows p r w c l) (rw (row-is p r w c k l) e);
+        afresh = g .afresh;
+        children = children-points p r w c [] (g .child);
+        parents = parents-others p r w c [] [] (g .parent);
+        ruled = ruled-of p r w c g;
+        single = single-of p r w c g;
+        used = used-of p r w c g;
+      }
+
+  pub apart-of : Sound (lent p r w) c → Initials r (c .vertices) i → Roots w (c .rows) t → (v : ℕ) → i ≤ v → v < c .vertices → Apart w (c .rows) (recordAt r v .first) (recordAt r v .second)
+  apart-of s ini roo v h l = record { leaf = leaf }
+    where
+      leaf : (q : ℕ) → q < c .rows → rowAt w q .child ≡ 0 → Holds 3 (cornersOf (rowAt w q)) (recordAt r v .first) → Holds 3 (cornersOf (rowAt w q)) (recordAt r v .second) → ⊥
+      leaf q k z a b =
+          let at-q = row-is p r w c q k in
+          let at-v = record-is p r w c v l in
+          s .conforming .leaf q v (have-rows p r w c k) (rw at-q z) (rw (runs-of s ini roo .0) h) (have-vertices p r w c l) (rw (at-q, at-v) a) (rw (at-q, at-v) b)
+
+-- ---- what the indexes ask of their keys
+
+-- corner slot s is place s % 4 of row s / 4, and a row's corners are vertices
+pub cornered-of : {p : List Float} {r w : List ℕ} {c : Counts} {i t : ℕ} → Grown (meshOf (lent p r w) c) i t → Fitting (lent p r w) c → Cornered w (c .rows)
+cornered-of {p} {r} {w} {c} g f = record { few = fitting-inside f .few-rows; low = low }
+  where
+    low : (s : ℕ) → s < 4 * c .rows → corner w s < 20000
+    low s h =
+        let inside : s / 4 < c .rows = omega arith in
+        let held = placed g (s / 4) (have-rows p r w c inside) .held (s % 4) (omega arith) in
+        let below : corner w s < c .vertices = rw (row-is p r w c (s / 4) inside, vertices-is p r w c) at held in
+        omega (arith, fitting-inside f .few-vertices)
+
+-- the first number of an initial vertex is a colour, and opening refuses colours over 63; this is known before the tables are known to be sound
+module _ {m : Mesh} {i t : ℕ} (a : Afresh m i t) (b : i ≤ vertices m) where
+  afresh-vertices : length (givenPoints m i) / 3 ≡ i
+  unfolding openedMesh
+  afresh-vertices = sym (length-up-to _ (length (givenPoints m i) / 3)) ∙ ap length (a .colours) ∙ length-take-le i (m .records) b
+
+  afresh-colour : (v : ℕ) → v < i → recordOf m v .first ≡ colourOf (givenElements m t) v
+  unfolding openedMesh
+  afresh-colour v h =
+      let n = length (givenPoints m i) / 3 in
+      let inside : v < n = omega (arith, afresh-vertices) in
+      ap (λ (x : Record). x .first)
+      (sym (getD-take i (m .records) v noRecord h) ∙ sym (ap (λ (l : List Record). getD l v noRecord) (a .colours)) ∙ up-to-at (λ u. initial (getD (colours (givenElements m t) n) u 0)) n v noRecord inside)
+      ∙ colours-at (givenElements m t) n v inside
+
+  afresh-small : (v : ℕ) → v < i → recordOf m v .first ≤ 63
+  afresh-small v h =
+      rw (afresh-colour v h)
+      (ltb-false 63 (colourOf (givenElements m t) v)
+      (first-none (garish (givenElements m t)) (length (givenPoints m i) / 3) (tested (givenPoints m i) (givenElements m t) _ _ _ (a .opens) .colours) v (omega (arith, afresh-vertices))))
+
+pub keyed-of : {p : List Float} {r w : List ℕ} {c : Counts} {i t : ℕ} → Initials r (c .vertices) i → Fitting (lent p r w) c → Afresh (meshOf (lent p r w) c) i t
+    → ((v : ℕ) → i ≤ v → v < c .vertices → Ruled p r v) → Keyed r (c .vertices)
+keyed-of {p} {r} {w} {c} {i} {t} ini f a ruled = record { few = fitting-inside f .few-vertices; low = low }
+  where
+    low : (v : ℕ) → v < c .vertices → smaller r v < 20000
+    low v h = elim (le-or-lt i v) [
+      | inl k ↦ let s = ruled v k h in omega (arith, s .rising, s .older, fitting-inside f .few-vertices)
+      | inr k ↦ let s : recordAt r v .first ≤ 63 = rw (record-is p r w c v h) at (afresh-small a (rw (vertices-is p r w c) (ini .within)) v k) in omega arith
+    ]

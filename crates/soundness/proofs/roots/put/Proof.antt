@@ -1,0 +1,24 @@
+-- `soundness::roots::put` meets its contract. Assumes nothing.
+use borrow.Author.Needs.{needs}
+use lib.Seq.{set-out}
+use Rattle.soundness.proofs.roots.put.Statement.{statement}
+use Rattle.soundness.proofs.roots.put.Tie as tie
+
+mul-table : tie.Need-mul-table
+mul-table c = search needs
+
+slice-write-table : tie.Need-slice-write-table
+slice-write-table c = search needs
+
+same-length : tie.Need-same-length
+same-length c = search needs
+
+returns : tie.Need-returns
+returns c = search needs
+
+-- past the end nothing is stored
+returns-2 : tie.Need-returns-2
+returns-2 c = search (needs, set-out)
+
+pub put-spec : {M : Type 1} → statement M
+put-spec = tie.close (tie.spec mul-table slice-write-table same-length returns returns-2)

@@ -1,0 +1,283 @@
+// The table check on W6: as a call leaves it, numbered as no call would, with each number of a table changed, and with odd lengths and counts.
+use crate::show;
+use libc::STDOUT_FILENO;
+use tables::layout::Counts;
+
+fn yes_or_no(sound: bool) {
+    if sound {
+        io::write_all(STDOUT_FILENO, b" yes");
+    } else {
+        io::write_all(STDOUT_FILENO, b" no");
+    }
+}
+
+fn counts(vertices: usize, rows: usize) -> Counts {
+    Counts { vertices, rows }
+}
+
+fn raised(x: u32) -> u32 {
+    if x < 4294967295 { x + 1 } else { 0 }
+}
+
+// Checks the tables with the number at place i raised by one, and puts it back.
+fn one_record(points: &[f64], records: &mut [u32], rows: &[u32], i: usize) {
+    if i < records.len() {
+        let old = records[i];
+        records[i] = raised(old);
+        yes_or_no(soundness::check(points, records, rows, counts(6, 6)));
+        records[i] = old;
+    }
+}
+
+fn one_row(points: &[f64], records: &[u32], rows: &mut [u32], i: usize) {
+    if i < rows.len() {
+        let old = rows[i];
+        rows[i] = raised(old);
+        yes_or_no(soundness::check(points, records, rows, counts(6, 6)));
+        rows[i] = old;
+    }
+}
+
+fn every_record(points: &[f64], records: &mut [u32], rows: &[u32]) {
+    io::write_all(STDOUT_FILENO, b"records");
+    let mut i = 0usize;
+    while i < 14 {
+        one_record(points, records, rows, i);
+        i += 1;
+    }
+    show::end_line();
+}
+
+fn every_row(points: &[f64], records: &[u32], rows: &mut [u32]) {
+    io::write_all(STDOUT_FILENO, b"rows");
+    let mut i = 0usize;
+    while i < 56 {
+        one_row(points, records, rows, i);
+        i += 1;
+    }
+    show::end_line();
+}
+
+fn one_point(points: &mut [f64], records: &[u32], rows: &[u32], i: usize, x: f64) {
+    if i < points.len() {
+        let old = points[i];
+        points[i] = x;
+        yes_or_no(soundness::check(points, records, rows, counts(6, 6)));
+        points[i] = old;
+    }
+}
+
+// A coordinate of the midpoint, and minus zero past the count.
+fn some_points(points: &mut [f64], records: &[u32], rows: &[u32]) {
+    io::write_all(STDOUT_FILENO, b"points");
+    one_point(points, records, rows, 15, 0.25);
+    one_point(points, records, rows, 15, 0.0);
+    one_point(points, records, rows, 18, -0.0);
+    show::end_line();
+}
+
+fn odd_sizes(points: &[f64], records: &[u32], rows: &[u32]) {
+    io::write_all(STDOUT_FILENO, b"sizes");
+    yes_or_no(soundness::check(points, records, rows, counts(0, 0)));
+    yes_or_no(soundness::check(points, records, rows, counts(6, 5)));
+    yes_or_no(soundness::check(points, records, rows, counts(5, 6)));
+    yes_or_no(soundness::check(points, records, rows, counts(7, 7)));
+    yes_or_no(soundness::check(
+        points,
+        records,
+        rows,
+        counts(18446744073709551615, 18446744073709551615),
+    ));
+    show::end_line();
+}
+
+fn odd_lengths(points: &[f64], records: &[u32], rows: &[u32]) {
+    io::write_all(STDOUT_FILENO, b"lengths");
+    if points.len() < 21 {
+        return;
+    }
+    if records.len() < 14 {
+        return;
+    }
+    if rows.len() < 56 {
+        return;
+    }
+    yes_or_no(soundness::check(&points[0..20], records, rows, counts(6, 6)));
+    yes_or_no(soundness::check(points, &records[0..13], rows, counts(6, 6)));
+    yes_or_no(soundness::check(points, records, &rows[0..55], counts(6, 6)));
+    yes_or_no(soundness::check(&points[0..18], &records[0..12], &rows[0..48], counts(6, 6)));
+    show::end_line();
+}
+
+fn whole(points: &[f64], records: &[u32], rows: &[u32]) {
+    yes_or_no(soundness::check(points, records, rows, counts(6, 6)));
+}
+
+// W6 with room for one vertex and one row more; `own` has the two pairs of children the other way round.
+pub fn run() {
+    io::write_all(STDOUT_FILENO, b"check\n");
+    let mut points = [
+        0.0,
+        0.0,
+        0.0,
+        1.0,
+        0.0,
+        0.0,
+        0.0,
+        1.0,
+        0.0,
+        0.0,
+        0.0,
+        1.0,
+        1.0,
+        1.0,
+        1.0,
+        0.0,
+        0.5,
+        0.5,
+        0.0,
+        0.0,
+        0.0,
+    ];
+    let mut records = [
+        0u32,
+        4294967295,
+        1,
+        4294967295,
+        2,
+        4294967295,
+        3,
+        4294967295,
+        0,
+        4294967295,
+        2,
+        3,
+        0,
+        0,
+    ];
+    let mut rows = [
+        3u32,
+        0,
+        1,
+        2,
+        3,
+        0,
+        2,
+        0,
+        3,
+        4,
+        1,
+        2,
+        3,
+        1,
+        4,
+        0,
+        3,
+        0,
+        1,
+        5,
+        2,
+        0,
+        0,
+        1,
+        0,
+        1,
+        2,
+        5,
+        2,
+        0,
+        0,
+        1,
+        3,
+        4,
+        1,
+        5,
+        2,
+        1,
+        0,
+        1,
+        4,
+        1,
+        2,
+        5,
+        2,
+        1,
+        0,
+        1,
+        0,
+        0,
+        0,
+        0,
+        0,
+        0,
+        0,
+        0,
+    ];
+    let own = [
+        3u32,
+        0,
+        1,
+        2,
+        3,
+        0,
+        4,
+        0,
+        3,
+        4,
+        1,
+        2,
+        3,
+        1,
+        2,
+        0,
+        3,
+        4,
+        1,
+        5,
+        2,
+        1,
+        0,
+        1,
+        4,
+        1,
+        2,
+        5,
+        2,
+        1,
+        0,
+        1,
+        3,
+        0,
+        1,
+        5,
+        2,
+        0,
+        0,
+        1,
+        0,
+        1,
+        2,
+        5,
+        2,
+        0,
+        0,
+        1,
+        0,
+        0,
+        0,
+        0,
+        0,
+        0,
+        0,
+        0,
+    ];
+    io::write_all(STDOUT_FILENO, b"whole");
+    whole(&points, &records, &rows);
+    whole(&points, &records, &own);
+    show::end_line();
+    every_record(&points, &mut records, &rows);
+    every_row(&points, &records, &mut rows);
+    some_points(&mut points, &records, &rows);
+    odd_sizes(&points, &records, &rows);
+    odd_lengths(&points, &records, &rows);
+}
