@@ -18,13 +18,13 @@ ghost use Rattle.opening.specs.declared.answer.Verdict.the-variants.{Pas
 ghost use Rattle.opening.specs.Opening.{at, fitting, plain};
 ghost use Rattle.opening.specs.Scratch.{Plain, Ready, Painted, Blank, Judged, Settled};
 
-// Refused by this number at the place found, else passed.
-fn verdict_at(found: Found, number: u32) -> Verdict
-    ensures { λ r. ⌜ r ≡ at found number Passed ⌝ }
+// Refused by this number at the place found, else the verdict of what comes next.
+fn verdict_at(found: Found, number: u32, next: Verdict) -> Verdict
+    ensures { λ r. ⌜ r ≡ at found number next ⌝ }
 {
     match found {
         Found::At(place) => Verdict::Refused { number, place },
-        Found::Nowhere => Verdict::Passed,
+        Found::Nowhere => next,
     }
 }
 
@@ -62,14 +62,11 @@ fn judge_numbers(coordinates: &[f64], elements: &[u32]) -> Verdict
     ensures { λ r. ⌜ r ≡ plain (now (coordinates .entry)) (now (elements .entry)) Passed ⌝ }
 {
     let unusable = first_unusable(coordinates);
-    if let Found::At(place) = unusable {
-        return Verdict::Refused { number: 3, place };
-    }
     let missing = first_missing(elements, coordinates.len() / 3);
-    if let Found::At(place) = missing {
-        return Verdict::Refused { number: 4, place };
-    }
-    verdict_at(first_double(elements), 5)
+    let double = first_double(elements);
+    let last = verdict_at(double, 5, Verdict::Passed);
+    let then = verdict_at(missing, 4, last);
+    verdict_at(unusable, 3, then)
 }
 
 fn judge_faces(elements: &[u32], vertices: usize, scratch: &mut [u32]) -> Verdict
@@ -86,7 +83,7 @@ fn judge_faces(elements: &[u32], vertices: usize, scratch: &mut [u32]) -> Verdic
     if let Found::At(place) = third {
         return Verdict::Refused { number: 7, place };
     }
-    verdict_at(colour_all(elements, vertices, scratch), 8)
+    verdict_at(colour_all(elements, vertices, scratch), 8, Verdict::Passed)
 }
 
 // All tests; where they pass, the scratch table has the colours.

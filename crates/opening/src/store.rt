@@ -15,9 +15,9 @@ ghost use Rattle.opening.specs.Scratch.{Plain, colourIn};
 fn clear_numbers(table: &mut [u32])
     ensures { λ _. ⌜ now (table .exit) ≡ replicate (length (now (table .entry))) 0 ⌝ }
 {
-    let n = table.len();
+    let end = table.len();
     let mut i = 0usize;
-    while i < n {
+    while i < end {
         table[i] = 0;
         i += 1;
     }

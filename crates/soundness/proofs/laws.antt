@@ -19,6 +19,7 @@ pub mod Leaves
 pub mod Offspring
 pub mod Splits
 pub mod Count
+pub mod Chains
 pub mod Conform
 pub mod Family
 pub mod Midpoints

@@ -2,7 +2,7 @@
 use mathlib.Core.Path.{_≡_}
 use mathlib.Core.Bool.{Bool, true, false}
 use mathlib.Core.List.{List, []}
-use Prim.Native.Nat.{ℕ, _*_, _/_, _%_, _≤_, _<_}
+use Prim.Native.Nat.{ℕ, zero, suc, _*_, _/_, _%_, _≤_, _<_}
 use lib.ListN.{length, getD}
 use lib.Ieee.{Float}
 use Rattle.split.specs.declared.row.Row.{Row}
@@ -10,6 +10,7 @@ use Rattle.split.specs.Split.{Side, at, far, Holds}
 use Rattle.split.specs.Row.{childOf, cornersOf, tagOf}
 use Rattle.split.specs.Midpoint.{between}
 use Rattle.tables.specs.declared.layout.Counts.{Counts}
+use Rattle.tables.specs.declared.record.Record.{Record}
 use Rattle.tables.specs.Mesh.{Lent, Mesh, meshOf, Unused}
 use Rattle.tables.specs.Layout.{pointAt, recordAt, rowAt, rowWidth}
 use Rattle.soundness.specs.Sound.{rows, rowOf, childless, place, Child, Parent, Afresh, Fitting}
@@ -65,13 +66,23 @@ pub record Ruled (p : List Float) (r : List ℕ) (v : ℕ) : Type 0 where
   pub older : recordAt r v .second < v
   pub point : pointAt p v ≡ between (pointAt p (recordAt r v .first)) (pointAt p (recordAt r v .second))
 
--- the key of vertex v in the index by smaller parent
-abbrev pub smaller : List ℕ → ℕ → ℕ
-smaller r v = recordAt r v .first
+-- a parent as a key, the smaller at 0. An initial vertex has no larger one: the remainder gives it a key all the same
+abbrev pub parentOf : Record → ℕ → ℕ
+parentOf r zero = r .first
+parentOf r (suc p) = r .second % 20000
+
+-- the key of parent slot s
+abbrev pub parentAt : List ℕ → ℕ → ℕ
+parentAt r s = parentOf (recordAt r (s / 2)) (s % 2)
+
+-- the vertex of parent slot s stands before v and has its parents
+pub record Twin (r : List ℕ) (v s : ℕ) : Type 0 where
+  pub older : s / 2 < v
+  pub same : recordAt r (s / 2) ≡ recordAt r v
 
 pub record Keyed (r : List ℕ) (n : ℕ) : Type 0 where
   pub few : n ≤ 20000
-  pub low : (v : ℕ) → v < n → smaller r v < 20000
+  pub low : (v : ℕ) → v < n → recordAt r v .first < 20000
 
 -- a scratch table with room for an index of 400,000 places, and no head set
 pub record Fresh (scratch : List ℕ) : Type 0 where
@@ -96,6 +107,16 @@ corner w s = at (cornersOf (rowAt w (s / 4))) (s % 4)
 pub record Cornered (w : List ℕ) (n : ℕ) : Type 0 where
   pub few : n ≤ 100000
   pub low : (s : ℕ) → s < 4 * n → corner w s < 20000
+
+-- the row of corner slot s is a leaf that holds v
+pub record Joins (w : List ℕ) (v s : ℕ) : Type 0 where
+  pub leaf : rowAt w (s / 4) .child ≡ 0
+  pub holds : Holds 3 (cornersOf (rowAt w (s / 4))) v
+
+-- both parents of v are vertices that the index has a head for
+pub record Low (r : List ℕ) (v : ℕ) : Type 0 where
+  pub first : recordAt r v .first < 20000
+  pub second : recordAt r v .second < 20000
 
 -- no leaf among the first n rows holds both a and b
 pub record Apart (w : List ℕ) (n a b : ℕ) : Type 0 where

@@ -7,7 +7,7 @@ ghost use Rattle.chain.specs.Chain.{Indexed};
 ghost use Rattle.split.specs.Split.{Holds};
 ghost use Rattle.split.specs.Row.{cornersOf};
 ghost use Rattle.tables.specs.Layout.{recordAt, rowAt};
-ghost use Rattle.soundness.specs.Check.{Decides, Fresh, Cornered, corner, Apart};
+ghost use Rattle.soundness.specs.Check.{Decides, Fresh, Cornered, corner, Joins, Apart, Low};
 
 fn holds(r: Row, v: u32) -> bool
     ensures { λ b. ⌜ Decides (Holds 3 (cornersOf r) v) b ⌝ }
@@ -56,23 +56,41 @@ pub fn index_corners(rows: &[u32], n: usize, scratch: &mut [u32])
     }
 }
 
-// Whether no leaf holds both a and b.
+// Whether the row of corner slot s is a leaf that holds v.
+fn joins(rows: &[u32], s: usize, v: u32) -> bool
+    ensures { λ r. ⌜ Decides (Joins (now (rows .entry)) v s) r ⌝ }
+{
+    let held = tables::row::read(rows, s / 4);
+    if held.child == 0 {
+        return holds(held, v);
+    }
+    false
+}
+
+// Whether no leaf holds both a and b. The chains of both are walked in step, and the shorter one decides: a vertex in very many rows costs no more than the other end has.
 fn apart(rows: &[u32], scratch: &[u32], n: usize, a: u32, b: u32) -> bool
     requires { ⌜ Indexed (corner (now rows)) (4 * n) 20000 (now scratch) ⌝ }
     requires { ⌜ n ≤ 100000 ⌝ }
+    requires { ⌜ a < 20000 ⌝ }
     requires { ⌜ b < 20000 ⌝ }
     ensures { λ r. ⌜ Decides (Apart (now (rows .entry)) n a b) r ⌝ }
 {
-    let mut at = wide(scratch[wide(b)]);
-    while 0 < at {
-        let s = at - 1;
-        let held = tables::row::read(rows, s / 4);
-        if held.child == 0 {
-            if holds(held, a) {
-                return false;
-            }
+    let mut x = wide(scratch[wide(a)]);
+    let mut y = wide(scratch[wide(b)]);
+    while 0 < x {
+        if y == 0 {
+            return true;
         }
-        at = wide(scratch[20000 + s]);
+        let s = x - 1;
+        let t = y - 1;
+        if joins(rows, s, b) {
+            return false;
+        }
+        if joins(rows, t, a) {
+            return false;
+        }
+        x = wide(scratch[20000 + s]);
+        y = wide(scratch[20000 + t]);
     }
     true
 }
@@ -87,7 +105,7 @@ pub fn conforms(
 ) -> bool
     requires { ⌜ Indexed (corner (now rows)) (4 * n) 20000 (now scratch) ⌝ }
     requires { ⌜ n ≤ 100000 ⌝ }
-    requires { ⌜ ((v : ℕ) → i ≤ v → v < vertices → recordAt (now records) v .second < 20000) ⌝ }
+    requires { ⌜ ((v : ℕ) → i ≤ v → v < vertices → Low (now records) v) ⌝ }
     ensures { λ r. ⌜ Decides ((v : ℕ) → i ≤ v → v < vertices → Apart (now (rows .entry)) n (recordAt (now (records .entry)) v .first) (recordAt (now (records .entry)) v .second)) r ⌝ }
 {
     let mut v = i;

@@ -8,11 +8,10 @@ use tables::layout::Counts;
 ghost use mathlib.Core.Path.{_≡_};
 ghost use Prim.Native.Nat.{ℕ, _≤_, _<_};
 ghost use lib.ListN.{length};
-ghost use Rattle.tables.specs.Layout.{recordAt};
 ghost use Rattle.soundness.specs.Sound.{Sound};
-ghost use Rattle.soundness.specs.Check.{Decides, Cleared, Answers, Begun, Half, Rest, AllSingle, AllUsed, AllApart, Keyed, Cornered, lent};
+ghost use Rattle.soundness.specs.Check.{Decides, Cleared, Answers, Begun, Half, Rest, AllSingle, AllUsed, AllApart, Keyed, Cornered, Low, lent};
 
-fn clear(scratch: &mut [u32])
+pub fn clear(scratch: &mut [u32])
     ensures { λ _. ⌜ Cleared (length (now (scratch .entry))) (now (scratch .exit)) ⌝ }
 {
     let n = scratch.len();
@@ -46,7 +45,7 @@ fn pairs_used(rows: &[u32], c: Counts, i: usize, t: usize, scratch: &mut [u32]) 
 
 fn leaves_apart(records: &[u32], rows: &[u32], c: Counts, i: usize, scratch: &mut [u32]) -> bool
     requires { ⌜ Cornered (now rows) (c .rows) ⌝ }
-    requires { ⌜ ((v : ℕ) → i ≤ v → v < c .vertices → recordAt (now records) v .second < 20000) ⌝ }
+    requires { ⌜ ((v : ℕ) → i ≤ v → v < c .vertices → Low (now records) v) ⌝ }
     requires { ⌜ 420000 ≤ length (now scratch) ⌝ }
     ensures { λ r. ⌜ Decides (AllApart (now (records .entry)) (now (rows .entry)) c i) r ⌝ }
 {

@@ -1,6 +1,7 @@
-// The table check on W6: as a call leaves it, numbered as no call would, with each number of a table changed, and with odd lengths and counts.
+// The table check on W1, W5 and W7 as opened, and on W6: as a call leaves it, numbered as no call would, with each number of a table changed, and with odd lengths and counts.
 use crate::show;
 use libc::STDOUT_FILENO;
+use opening::answer::Opened;
 use tables::layout::Counts;
 
 fn yes_or_no(sound: bool) {
@@ -17,6 +18,26 @@ fn counts(vertices: usize, rows: usize) -> Counts {
 
 fn raised(x: u32) -> u32 {
     if x < 4294967295 { x + 1 } else { 0 }
+}
+
+// Opens into tables that hold 7 everywhere, and checks what is written there.
+fn opened(coordinates: &[f64], elements: &[u32]) {
+    let mut points = [7.0f64; 18];
+    let mut records = [7u32; 12];
+    let mut rows = [7u32; 32];
+    let r = opening::open(coordinates, elements, &mut points, &mut records, &mut rows);
+    if let Opened::Done(c) = r {
+        yes_or_no(soundness::check(&points, &records, &rows, c));
+    }
+}
+
+fn each_opened() {
+    io::write_all(STDOUT_FILENO, b"opened");
+    let line = [0.5f64; 15];
+    opened(&line[0..12], &[0, 1, 2, 3]);
+    opened(&line, &[0, 1, 2, 3, 1, 2, 3, 4]);
+    opened(&line, &[0, 1, 2, 3, 0, 1, 3, 4, 0, 1, 2, 4]);
+    show::end_line();
 }
 
 // Checks the tables with the number at place i raised by one, and puts it back.
@@ -116,6 +137,7 @@ fn whole(points: &[f64], records: &[u32], rows: &[u32]) {
 // W6 with room for one vertex and one row more; `own` has the two pairs of children the other way round.
 pub fn run() {
     io::write_all(STDOUT_FILENO, b"check\n");
+    each_opened();
     let mut points = [
         0.0,
         0.0,

@@ -10,7 +10,7 @@ use Rattle.opening.specs.Colours.{colours, largest}
 use Rattle.opening.specs.Order.{rootOf}
 use Rattle.opening.specs.declared.answer.Verdict.the-variants as verdict
 use Rattle.opening.specs.declared.answer.Opened.the-variants as opened
-use Rattle.opening.specs.Opening.{initial, openedMesh, verdictOn, Opens}
+use Rattle.opening.specs.Opening.{initial, openedMesh, verdictOn, lent, Opens}
 use Rattle.opening.specs.Scratch.{Painted, colourIn}
 
 pub colours-stored : {E scratch : List ℕ} {n : ℕ} → Painted E n scratch → colourIn scratch ≡ (λ v. getD (colours E n) v 0)
@@ -39,8 +39,9 @@ opened-laid {F} {E} {scratch} {N} {lp} {lv} {lr} p n s = λ i. record { points =
 
 -- ---- the promise of opening, from the verdict
 
-pub opens-refused : {F : List Float} {E : List ℕ} {t : Lent} {n p : ℕ} → verdictOn F E t ≡ verdict.Refused n p → Opens F E t (opened.Refused n p) t
-opens-refused {F} {E} {t} e = record { answers = rw e; leaves = rw e }
+pub opens-refused : {F points points' : List Float} {E records records' rows rows' : List ℕ} {n p : ℕ} → verdictOn F E (lent points records rows) ≡ verdict.Refused n p
+    → points' ≡ points → records' ≡ records → rows' ≡ rows → Opens F E (lent points records rows) (opened.Refused n p) (lent points' records' rows')
+opens-refused e a b c = record { answers = rw e; leaves = rw e (λ i. lent (a i) (b i) (c i)) }
 
 pub opens-passed : {F : List Float} {E : List ℕ} {t t' : Lent} → verdictOn F E t ≡ verdict.Passed
     → t' ≡ laid (openedMesh F E) (length (t .points)) (length (t .records)) (length (t .rows)) → Opens F E t (opened.Done (record { vertices = length F / 3; rows = length E / 4 })) t'

@@ -1,17 +1,16 @@
 -- The tests in their order: which verdict stands once the tests before it have passed.
-use mathlib.Core.Path.{_≡_, refl}
+use mathlib.Core.Path.{_≡_}
 use mathlib.Core.Bool.{true, false}
 use mathlib.Core.List.{List}
 use Prim.Native.Nat.{ℕ, _/_}
 use lib.ListN.{length}
-use lib.Ieee.{Float}
 use Rattle.opening.specs.declared.answer.Found.the-variants.{At, Nowhere}
 use Rattle.opening.specs.declared.answer.Verdict.{Verdict}
 use Rattle.opening.specs.declared.answer.Verdict.the-variants.{Refused, Passed}
 use Rattle.opening.specs.Search.{first}
-use Rattle.opening.specs.Causes.{wrongInput, wrongLent, noRoom, unusable, missing, double, same, third}
+use Rattle.opening.specs.Causes.{wrongInput, wrongLent, noRoom, same, third}
 use Rattle.opening.specs.Colours.{garish}
-use Rattle.opening.specs.Opening.{at, fitting, plain, late, judged}
+use Rattle.opening.specs.Opening.{at, fitting, late}
 
 -- ---- tests 1 and 2
 
@@ -31,22 +30,6 @@ module _ (f e p r w : ℕ) (next : Verdict) where
   pub lengths-passed : wrongInput f e ≡ false → wrongLent p r w ≡ false → noRoom (f / 3) (e / 4) p r w ≡ false → fitting f e p r w next ≡ next
   unfolding fitting
   lengths-passed a b c = rw (a, b, c)
-
--- ---- tests 3 to 5
-
-module _ (F : List Float) (E : List ℕ) (next : Verdict) where
-  pub unusable-refused : (v : ℕ) → first (unusable F) (length F / 3) ≡ At v → plain F E next ≡ Refused 3 v
-  unfolding plain
-  unusable-refused v a = rw a
-
-  pub missing-refused : (k : ℕ) → first (unusable F) (length F / 3) ≡ Nowhere → first (missing (length F / 3) E) (length E / 4) ≡ At k → plain F E next ≡ Refused 4 k
-  unfolding plain
-  missing-refused k a b = rw (a, b)
-
-  pub double-last : first (unusable F) (length F / 3) ≡ Nowhere → first (missing (length F / 3) E) (length E / 4) ≡ Nowhere
-      → plain F E next ≡ at (first (double E) (length E / 4)) 5 next
-  unfolding plain
-  double-last a b = rw (a, b)
 
 -- ---- tests 6 to 8
 

@@ -14,7 +14,7 @@ enum-known-verdict : tie.Need-enum-known-verdict
 enum-known-verdict c = search needs
 
 returns : tie.Need-returns
-returns c = opens-refused (cc (c .before .before .before .before .judge .ensures .answer))
+returns c = opens-refused (cc) (search needs) (search needs) (search needs)
 
 enum-told : tie.Need-enum-told
 enum-told c = search needs

@@ -24,7 +24,7 @@ use Rattle.opening.specs.Opening.{initial, openedMesh}
 use Rattle.opening.proofs.laws.Search.{first-none}
 use Rattle.opening.proofs.laws.Colours.{colours-at}
 use Rattle.soundness.specs.Sound.{vertices, rows, pointOf, recordOf, rowOf, Parted, givenPoints, givenElements, Afresh, Child, Parent, Midpoint, Grown, Conforming, Fitting, Sound}
-use Rattle.soundness.specs.Check.{lent, Initials, Roots, Children, Parents, Ruled, smaller, Keyed, middleAt, corner, Cornered, Apart, Clauses}
+use Rattle.soundness.specs.Check.{lent, Initials, Roots, Children, Parents, Ruled, Keyed, middleAt, corner, Cornered, Apart, Clauses}
 use Rattle.soundness.proofs.laws.Fitted.{fitting-inside}
 use Rattle.soundness.proofs.laws.Placed.{placed}
 use Rattle.soundness.proofs.laws.Tested.{tested}
@@ -331,7 +331,7 @@ pub keyed-of : {p : List Float} {r w : List ℕ} {c : Counts} {i t : ℕ} → In
     → ((v : ℕ) → i ≤ v → v < c .vertices → Ruled p r v) → Keyed r (c .vertices)
 keyed-of {p} {r} {w} {c} {i} {t} ini f a ruled = record { few = fitting-inside f .few-vertices; low = low }
   where
-    low : (v : ℕ) → v < c .vertices → smaller r v < 20000
+    low : (v : ℕ) → v < c .vertices → recordAt r v .first < 20000
     low v h = elim (le-or-lt i v) [
       | inl k ↦ let s = ruled v k h in omega (arith, s .rising, s .older, fitting-inside f .few-vertices)
       | inr k ↦ let s : recordAt r v .first ≤ 63 = rw (record-is p r w c v h) at (afresh-small a (rw (vertices-is p r w c) (ini .within)) v k) in omega arith

@@ -1,10 +1,10 @@
--- Clause 6: equal floats and points, the rule, the index by smaller parent, its walk, and the flags of the midpoints.
+-- Clause 6: equal floats and points, the rule, the parent slots and the walks along them, and the flags of the midpoints.
 use mathlib.Core.Path.{_≡_, refl, sym, ap, _∙_}
 use mathlib.Core.Logic.{_⊎_, inl, inr}
 use mathlib.Core.Bool.{Bool, true, false, true≢false}
 use mathlib.Core.List.{List}
-use Prim.Native.Nat.{ℕ, zero, suc, _+_, _-_, _≤_, _<_}
-use native.Mathlib.Decide.{decLt, ℕ-discrete}
+use Prim.Native.Nat.{ℕ, zero, suc, _+_, _*_, _/_, _%_, _≤_, _<_}
+use native.Mathlib.Decide.{ℕ-discrete}
 use native.Mathlib.Omega.{arith}
 use lib.Dec.{eqb}
 use lib.Ieee.{Float, binary64, fits, ne, ofBits, toBits}
@@ -14,10 +14,6 @@ use lib.ListN.{length, getD, set, length-set}
 use lib.Seq.{getD-set-same, getD-set-other}
 use borrow.Author.Tests.{eqb-true, eqb-false}
 use denote.Floats.{passes}
-use Rattle.chain.specs.Chain.{latest, Indexed, pushed}
-use Rattle.chain.proofs.laws.Walk.{latest-between, latest-below, latest-some}
-use Rattle.chain.proofs.laws.Index.{next-link, indexed-none, indexed-push-one}
-use Rattle.chain.proofs.laws.Pushed.{pushed-length}
 use Rattle.split.specs.declared.point.Point.{Point}
 use Rattle.split.specs.declared.row.Row.{Row}
 use Rattle.split.specs.Split.{far}
@@ -25,8 +21,9 @@ use Rattle.split.specs.Row.{readTag, cornersOf}
 use Rattle.split.specs.Midpoint.{between}
 use Rattle.tables.specs.declared.record.Record.{Record}
 use Rattle.tables.specs.Layout.{pointAt, recordAt, rowAt}
-use Rattle.soundness.specs.Check.{Decides, Ruled, smaller, Keyed, Fresh, middleAt, Marked}
+use Rattle.soundness.specs.Check.{Decides, Ruled, parentOf, parentAt, Twin, Keyed, middleAt, Marked}
 use Rattle.soundness.proofs.laws.Deciding.{decides-true, decides-false, decides-same}
+use Rattle.soundness.proofs.laws.Chains.{Walked}
 
 -- ---- equal floats
 
@@ -73,29 +70,20 @@ module _ {p : List Float} {r : List ℕ} {v : ℕ} {held : Record} (e : held ≡
       meant : middle ≡ between (pointAt p (recordAt r v .first)) (pointAt p (recordAt r v .second))
       meant = rw (w, j, m, i, k, e)
 
--- ---- the index by smaller parent
+-- ---- the parent slots
 
--- the first v vertices are in the index
-pub record Indexing (r : List ℕ) (n v : ℕ) (before scratch : List ℕ) : Type 0 where
-  pub reached : v ≤ n
-  pub size : length scratch ≡ length before
-  pub index : Indexed (smaller r) v 20000 scratch
+pub parent-at : (R : List ℕ) (s p : ℕ) {x : ℕ} {held : Record} → held ≡ recordAt R (s / 2) → s % 2 ≡ p → x ≡ parentOf held p → x ≡ parentAt R s
+parent-at R s p e f g = g ∙ ap (λ (r : Record). parentOf r p) e ∙ ap (parentOf (recordAt R (s / 2))) (sym f)
 
-pub indexing-start : (r : List ℕ) (n : ℕ) {scratch : List ℕ} → Fresh scratch → Indexing r n 0 scratch scratch
-indexing-start r n {scratch} f = record { reached = omega arith; size = refl; index = indexed-none (smaller r) 20000 scratch (omega (arith, f .size)) (f .clear) }
+-- a slot's key is the smaller parent, or less than 20000 by the remainder
+pub slots-low : {R : List ℕ} {n : ℕ} → Keyed R n → (s : ℕ) → s < 2 * n → parentAt R s < 20000
+slots-low {R} k s h = go (s % 2)
+  where
+    go : (p : ℕ) → parentOf (recordAt R (s / 2)) p < 20000
+    go zero = k .low (s / 2) (omega arith)
+    go (suc p) = omega arith
 
-module _ {r : List ℕ} {n v : ℕ} {before scratch : List ℕ} (x : Indexing r n v before scratch) where
-  pub indexing-next : {held : Record} {k : ℕ} {after : List ℕ} → Keyed r n → Fresh before → v < n → held ≡ recordAt r v → k ≡ held .first → after ≡ pushed scratch 20000 v k → Indexing r n (v + 1) before after
-  indexing-next {held} {k} {after} y f l e q w =
-      let a : after ≡ pushed scratch 20000 v (smaller r v) = rw (w, q, e) in
-      rw a (record { reached = omega arith; size = rw pushed-length (x .size); index = indexed-push-one (x .index) (y .low v l) (omega (arith, x .size, f .size, y .few)) (omega (arith, y .few)) })
-
-  pub indexing-done : n ≤ v → Indexed (smaller r) n 20000 scratch
-  indexing-done l =
-      let e : n ≡ v = omega (arith, x .reached) in
-      rw e (x .index)
-
--- ---- the walk back over the vertices with one smaller parent
+-- ---- the walks back along the slots of the two parents of v, in step
 
 -- no vertex before v has the parents of v
 abbrev pub Single : List ℕ → ℕ → Type 0
@@ -106,51 +94,48 @@ record-is a b p q =
     let whole : _≡_ {A = Record} (record { first = a .first; second = a .second }) (record { first = b .first; second = b .second }) = cc (p, q) in
     whole
 
--- a walk that is at `at`: no vertex from there on has the parents of v
-pub record Back (r : List ℕ) (v at : ℕ) : Type 0 where
-  pub below : at ≤ v
-  here : 0 < at → smaller r (at - 1) ≡ smaller r v
-  past : (u : ℕ) → at ≤ u → u < v → recordAt r u ≡ recordAt r v → ⊥
+-- a walk that is at i, back from parent slot m
+abbrev pub Back : List ℕ → ℕ → ℕ → ℕ → Type 0
+Back R v m i = Walked (parentAt R) (Twin R v) m (parentAt R m) i
 
-module _ {r : List ℕ} {v : ℕ} where
-  -- what is left of the walk are the places of the key below m
-  back-to : (m at : ℕ) → m ≤ v → at ≡ latest (smaller r) (smaller r v) m → ((u : ℕ) → m ≤ u → u < v → recordAt r u ≡ recordAt r v → ⊥) → Back r v at
-  back-to m at h e past = record { below = omega (arith, latest-below (smaller r) (smaller r v) m); here = λ l. latest-some (smaller r) (smaller r v) m (at - 1) (omega arith) .1; past = λ u l b k. go u l b k (decLt u m) }
+pub record Paired (R : List ℕ) (v x y : ℕ) : Type 0 where
+  pub first : Back R v (2 * v) x
+  pub second : Back R v (2 * v + 1) y
+
+module _ {R : List ℕ} {v s : ℕ} where
+  pub twin-late : v ≤ s / 2 → Decides (Twin R v s) false
+  twin-late l = decides-false (λ t. omega (arith, t .older))
+
+  module _ {held other : Record} (l : s / 2 < v) (p : held ≡ recordAt R v) (q : other ≡ recordAt R (s / 2)) where
+    pub twin-seen : {r : Bool} → other .second ≡ held .second → Decides (other .first ≡ held .first) r → Decides (Twin R v s) r
+    twin-seen e = decides-same (λ f. record { older = l; same = sym q ∙ record-is other held f e ∙ p }) (λ t. ap (λ (r : Record). r .first) (q ∙ t .same ∙ sym p))
+
+    pub twin-not : (other .second ≡ held .second → ⊥) → Decides (Twin R v s) false
+    twin-not d = decides-false (λ t. d (ap (λ (r : Record). r .second) (q ∙ t .same ∙ sym p)))
+
+  pub twin-met : Twin R v s → Decides (Single R v) false
+  twin-met t = decides-false (λ f. f (s / 2) (t .older) (t .same))
+
+module _ {R : List ℕ} {v i : ℕ} where
+  -- a walk from slot m = 2 v + p that is done has passed the slot 2 u + p of each u
+  back-done : (m p : ℕ) → p ≤ 1 → m ≡ 2 * v + p → Back R v m i → i ≤ 0 → Decides (Single R v) true
+  back-done m p small e w l = decides-true passed
     where
-      go : (u : ℕ) → at ≤ u → u < v → recordAt r u ≡ recordAt r v → Dec (u < m) → ⊥
-      go u l b k (yes i) = latest-between (smaller r) (smaller r v) m u (omega arith) i (ap (λ (t : Record). t .first) k)
-      go u l b k (no i) = past u (omega arith) b k
+      slot : (u k : ℕ) → k ≡ 2 * u + p → parentOf (recordAt R u) p ≡ parentAt R k
+      slot u k f =
+          let vertex : k / 2 ≡ u = omega arith in
+          parent-at R k p (ap (recordAt R) (sym vertex)) (omega arith) refl
 
-  pub back-start : {n at : ℕ} {scratch : List ℕ} → Indexed (smaller r) n 20000 scratch → v < n → at ≡ getD scratch (20000 + v) 0 → Back r v at
-  back-start {at = at} x h e = back-to v at (omega arith) (e ∙ x .links v h) (λ u l b k. omega arith)
+      passed : (u : ℕ) → u < v → recordAt R u ≡ recordAt R v → ⊥
+      passed u b k =
+          let vertex : (2 * u + p) / 2 ≡ u = omega arith in
+          w .behind (2 * u + p) (omega arith) (omega arith) (sym (slot u (2 * u + p) refl) ∙ ap (λ (r : Record). parentOf r p) k ∙ slot v m e) (record { older = omega arith; same = ap (recordAt R) vertex ∙ k })
 
-  module _ {n at : ℕ} {scratch : List ℕ} (x : Indexed (smaller r) n 20000 scratch) (h : v < n) (w : Back r v at) (more : 0 < at) where
-    next-is : {next : ℕ} → next ≡ getD scratch (20000 + (at - 1)) 0 → next ≡ latest (smaller r) (smaller r v) (at - 1)
-    next-is e = e ∙ next-link x (omega (arith, w .below)) (w .here more)
+  pub back-done-first : Back R v (2 * v) i → i ≤ 0 → Decides (Single R v) true
+  back-done-first = back-done (2 * v) 0 (omega arith) (omega arith)
 
-    -- the next place is smaller
-    pub back-less : {next : ℕ} → next ≡ getD scratch (20000 + (at - 1)) 0 → next < at
-    back-less e = omega (arith, next-is e, latest-below (smaller r) (smaller r v) (at - 1))
-
-    pub back-step : {next : ℕ} {held other : Record} → held ≡ recordAt r v → other ≡ recordAt r (at - 1) → (other .second ≡ held .second → ⊥) → next ≡ getD scratch (20000 + (at - 1)) 0 → Back r v next
-    back-step {next} {held} {other} p q d e = back-to (at - 1) next (omega (arith, w .below)) (next-is e) (λ u l b k. go u l b k (ℕ-discrete u (at - 1)))
-      where
-        go : (u : ℕ) → at - 1 ≤ u → u < v → recordAt r u ≡ recordAt r v → Dec (u ≡ at - 1) → ⊥
-        go u l b k (yes i) =
-            let same : recordAt r (at - 1) ≡ recordAt r v = rw i at k in
-            d (ap (λ (t : Record). t .second) (q ∙ same ∙ sym p))
-        go u l b k (no i) = w .past u (omega arith) b k
-
-  module _ {at : ℕ} (w : Back r v at) where
-    -- the walk meets the parents of v
-    pub back-met : {held other : Record} → 0 < at → held ≡ recordAt r v → other ≡ recordAt r (at - 1) → other .second ≡ held .second → Decides (Single r v) false
-    back-met {held} {other} more p q e = decides-false (λ s. s (at - 1) (omega (arith, w .below)) same)
-      where
-        same : recordAt r (at - 1) ≡ recordAt r v
-        same = record-is _ _ (w .here more) (sym (ap (λ (t : Record). t .second) q) ∙ e ∙ ap (λ (t : Record). t .second) p)
-
-    pub back-done : at ≤ 0 → Decides (Single r v) true
-    back-done l = decides-true (λ u b k. w .past u (omega arith) b k)
+  pub back-done-second : Back R v (2 * v + 1) i → i ≤ 0 → Decides (Single R v) true
+  back-done-second = back-done (2 * v + 1) 1 (omega arith) (omega arith)
 
 -- ---- the flags of the midpoints
 

@@ -10,7 +10,7 @@ use Rattle.soundness.specs.Forest.{grown, elementOf}
 use Rattle.soundness.proofs.laws.Elements.{child-element}
 
 -- the two places are different
-place-apart : (s r : Side) (c : ℕ) → place s c ≡ place r c → s ≡ r
+pub place-apart : (s r : Side) (c : ℕ) → place s c ≡ place r c → s ≡ r
 place-apart left left c e = refl
 place-apart left right c e = absurd (omega arith)
 place-apart right left c e = absurd (omega arith)

@@ -9,9 +9,8 @@ use lib.ListN.{length, getD, replicate, length-replicate, getD-replicate, List·
 use lib.Ieee.{Float}
 use Rattle.split.proofs.laws.Places.{le-or-lt}
 use Rattle.tables.specs.declared.layout.Counts.{Counts}
-use Rattle.tables.specs.Layout.{recordAt}
 use Rattle.soundness.specs.Sound.{Sound, Fitting}
-use Rattle.soundness.specs.Check.{Decides, lent, Inside, Cleared, Fresh, Answers, Begun, Half, Rest, Clauses, Marked, middleAt, AllRuled, AllUsed, AllApart, Keyed, Cornered}
+use Rattle.soundness.specs.Check.{Decides, lent, Inside, Cleared, Fresh, Answers, Begun, Half, Rest, Clauses, Marked, middleAt, AllRuled, AllUsed, AllApart, Keyed, Cornered, Low}
 use Rattle.soundness.proofs.laws.Deciding.{decides-same}
 use Rattle.soundness.proofs.laws.Fitted.{fitting-inside}
 use Rattle.soundness.proofs.laws.Checked.{grown-of, keyed-of, cornered-of, sound-of, clauses-of, apart-of}
@@ -78,8 +77,8 @@ module _ {p : List Float} {r w : List ℕ} {c : Counts} {i t : ℕ} (b : Begun p
     pub cornered-from : Cornered w (c .rows)
     cornered-from = cornered-of (grown-of (b .initials) (b .roots) (clauses-from h s)) (b .fitting)
 
-    pub second-small : (v : ℕ) → i ≤ v → v < c .vertices → recordAt r v .second < 20000
-    second-small v a l = omega (arith, s .ruled v a l .older, few-vertices)
+    pub parents-low : (v : ℕ) → i ≤ v → v < c .vertices → Low r v
+    parents-low v a l = omega (arith, s .ruled v a l .rising, s .ruled v a l .older, few-vertices)
 
     pub sound-decided : {x : Bool} → Decides (AllApart r w c i) x → Decides (Sound (lent p r w) c) x
     sound-decided d = decides-same (λ a. sound-of (b .initials) (b .roots) (clauses-from h s) a) (λ z. apart-of z (b .initials) (b .roots)) d

@@ -1,4 +1,4 @@
-use lib.Ieee.{nanBits}
+use lib.Ieee.{nanBits, le}
 use Rattle.opening.proofs.laws.Usable.{usable-by-order}
 use Rattle.opening.proofs.coordinates.is_usable.Statement.{statement}
 use Rattle.opening.proofs.coordinates.is_usable.Tie as tie
@@ -7,10 +7,13 @@ float-from-bits-most : tie.Need-float-from-bits-most
 unfolding nanBits
 float-from-bits-most c = tt
 
+-- `le` is open, so that a test by `<` in its place leaves a false equation
 returns : tie.Need-returns
+unfolding le
 returns c = rw (usable-by-order, c .if1 .taken)
 
 returns-2 : tie.Need-returns-2
+unfolding le
 returns-2 c = rw (usable-by-order, c .if1 .left)
 
 pub is-usable-spec : {M : Type 1} → statement M

@@ -1,12 +1,9 @@
-use mathlib.Core.Path.{sym, ap, _≡_}
+use mathlib.Core.Path.{sym, ap}
 use borrow.Author.Needs.{needs}
 use Rattle.opening.specs.declared.answer.Found.{Found}
-use Rattle.opening.specs.declared.answer.Verdict.the-variants.{Passed}
 use Rattle.opening.specs.Opening.{at}
 use Rattle.opening.proofs.judge.verdict_at.Statement.{statement}
 use Rattle.opening.proofs.judge.verdict_at.Tie as tie
-use Rattle.opening.proofs.judge.verdict_at.Reads as reads
-use Rattle.opening.proofs.judge.verdict_at.Lts as lts
 
 enum-known-found : tie.Need-enum-known-found
 enum-known-found c = search needs
@@ -15,7 +12,7 @@ enum-told : tie.Need-enum-told
 enum-told c = search needs
 
 returns : tie.Need-returns
-returns c = sym (ap (λ (f : Found). at f (c .before .before .before .args .number) Passed) (c .before .found .given .1))
+returns c = sym (ap (λ (f : Found). at f (c .before .before .before .args .number) (c .before .before .before .args .next)) (c .before .found .given .1))
 
 returns-2 : tie.Need-returns-2
 returns-2 c = search needs

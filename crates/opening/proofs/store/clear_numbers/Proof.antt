@@ -1,15 +1,17 @@
 -- `store::clear_numbers`: the numbers before `i` are set. Assumes nothing.
 use Prim.Native.Nat.{_-_}
+use native.Mathlib.Omega.{arith}
+use lib.ListN.{length}
 use borrow.Author.Needs.{needs}
 use Rattle.opening.proofs.laws.Filling.{Cleared, clear-start, clear-next, clear-end}
 use Rattle.opening.proofs.store.clear_numbers.Statement.{statement}
 use Rattle.opening.proofs.store.clear_numbers.Tie as tie
 
 abbrev Inv-loop : tie.InvT-loop
-Inv-loop table₀ n i₀ table i = Cleared 0 n i table
+Inv-loop table₀ end i₀ table i = Cleared 0 (length table₀) i table
 
 abbrev μ-loop : tie.MeasureT-loop
-μ-loop table₀ n i₀ table i = n - i
+μ-loop table₀ end i₀ table i = end - i
 
 loop-holds : tie.Need-loop-holds Inv-loop μ-loop
 loop-holds c = clear-start _
@@ -33,7 +35,7 @@ same-length : tie.Need-same-length Inv-loop μ-loop
 same-length c = c .before .loop .inv .length-is
 
 returns : tie.Need-returns Inv-loop μ-loop
-returns c = clear-end (c .before .loop .inv) (search needs)
+returns c = clear-end (c .before .loop .inv) (omega arith)
 
 pub clear-numbers-spec : {M : Type 1} → statement M
 clear-numbers-spec =

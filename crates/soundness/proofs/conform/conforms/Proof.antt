@@ -2,7 +2,7 @@
 use Prim.Native.Nat.{_-_}
 use borrow.Author.Needs.{needs}
 use Rattle.soundness.proofs.laws.Deciding.{refused, granted, Swept, swept-none, swept-on, swept-all, swept-failed}
-use Rattle.soundness.proofs.laws.Conform.{Parted, second-low, decides-parted}
+use Rattle.soundness.proofs.laws.Conform.{Parted, ends-low, decides-parted}
 use Rattle.soundness.proofs.conform.conforms.Statement.{statement}
 use Rattle.soundness.proofs.conform.conforms.Tie as tie
 
@@ -21,7 +21,7 @@ read-requires c κs = search needs
 apart-requires : tie.Need-apart-requires Inv-loop μ-loop
 apart-requires c κs =
     let start = c .before .before .before .before .before .before .pre in
-    (start .0, (start .1 .0, second-low _ _ (c .read .ensures) (start .1 .1 _ (c .before .before .loop .inv .reached) (c .before .loop-test .taken))))
+    (start .0, (start .1 .0, ends-low _ _ (c .read .ensures) (start .1 .1 _ (c .before .before .loop .inv .reached) (c .before .loop-test .taken))))
 
 returns : tie.Need-returns Inv-loop μ-loop
 returns c = swept-failed (c .before .before .before .before .loop .inv) (c .before .before .before .loop-test .taken) (refused (decides-parted _ _ (c .before .before .read .ensures) (c .before .apart .ensures)) (c .if1 .taken))

@@ -6,7 +6,7 @@ use borrow.Author.Needs.{needs}
 use lib.ListN.{length}
 use Rattle.chain.specs.Chain.{Indexed}
 use Rattle.soundness.specs.Check.{corner}
-use Rattle.soundness.proofs.laws.Conform.{corners-none, corners-push, indexed-count}
+use Rattle.soundness.proofs.laws.Chains.{slots-none, slots-push, indexed-count}
 use Rattle.soundness.proofs.conform.index_corners.Statement.{statement}
 use Rattle.soundness.proofs.conform.index_corners.Tie as tie
 
@@ -20,7 +20,7 @@ mul-count : tie.Need-mul-count Inv-loop μ-loop
 mul-count c = search needs
 
 loop-holds : tie.Need-loop-holds Inv-loop μ-loop
-loop-holds c = (search needs, corners-none _ (c .before .before .pre .1), refl)
+loop-holds c = (search needs, slots-none _ (c .before .before .pre .1), refl)
 
 key-requires : tie.Need-key-requires Inv-loop μ-loop
 key-requires c κs = search needs
@@ -38,7 +38,7 @@ loop-again : tie.Need-loop-again Inv-loop μ-loop
 loop-again c =
     let inv = c .before .before .before .before .before .before .loop .inv in
     let start = c .before .before .before .before .before .before .before .before .before .pre in
-    let next = corners-push (start .0) (inv .1) (omega (arith, start .1 .size, inv .2)) (c .before .before .before .before .before .loop-test .taken) (c .before .before .before .key .ensures) (c .before .before .push .ensures) in
+    let next = slots-push (omega (arith, start .0 .few)) (start .0 .low) (inv .1) (omega (arith, start .1 .size, inv .2)) (c .before .before .before .before .before .loop-test .taken) (c .before .before .before .key .ensures) (c .before .before .push .ensures) in
     (search needs, next .0, next .1 ∙ inv .2)
 
 same-length : tie.Need-same-length Inv-loop μ-loop

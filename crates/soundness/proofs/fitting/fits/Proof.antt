@@ -7,13 +7,13 @@ use Rattle.soundness.proofs.fitting.fits.Statement.{statement}
 use Rattle.soundness.proofs.fitting.fits.Tie as tie
 
 returns : tie.Need-returns
-returns c = decides-false (λ f. c .if1 .taken (f .points))
+returns c = decides-false (λ f. omega (arith, f, c .if1 .taken))
 
 returns-2 : tie.Need-returns-2
-returns-2 c = decides-false (λ f. c .if2 .taken (f .records))
+returns-2 c = decides-false (λ f. omega (arith, f, c .if2 .taken))
 
 returns-3 : tie.Need-returns-3
-returns-3 c = decides-false (λ f. c .if3 .taken (f .rows))
+returns-3 c = decides-false (λ f. omega (arith, f, c .if3 .taken))
 
 room-requires : tie.Need-room-requires
 room-requires c κs = search needs

@@ -1,41 +1,52 @@
+-- `soundness::midpoints::index_records` meets its contract. The loop's invariant: the first s slots are in the index. Assumes nothing.
+use mathlib.Core.Path.{_≡_, refl, _∙_}
+use Prim.Native.Nat.{_≤_, _-_}
+use native.Mathlib.Omega.{arith}
 use borrow.Author.Needs.{needs}
-use Prim.Native.Nat.{_-_}
-use Rattle.soundness.proofs.laws.Midpoints.{Indexing, indexing-start, indexing-next, indexing-done}
+use lib.ListN.{length}
+use Rattle.chain.specs.Chain.{Indexed}
+use Rattle.soundness.specs.Check.{parentAt}
+use Rattle.soundness.proofs.laws.Chains.{slots-none, slots-push, indexed-count}
+use Rattle.soundness.proofs.laws.Midpoints.{slots-low}
 use Rattle.soundness.proofs.midpoints.index_records.Statement.{statement}
 use Rattle.soundness.proofs.midpoints.index_records.Tie as tie
 
 abbrev Inv-loop : tie.InvT-loop
-Inv-loop records n scratch₀ v₀ scratch v = Indexing records n v scratch₀ scratch
+Inv-loop records n scratch₀ count s₀ scratch s = (s ≤ count) × Indexed (parentAt records) s 20000 scratch × (length scratch ≡ length scratch₀)
 
 abbrev μ-loop : tie.MeasureT-loop
-μ-loop records n scratch₀ v₀ scratch v = n - v
+μ-loop records n scratch₀ count s₀ scratch s = count - s
+
+mul-count : tie.Need-mul-count Inv-loop μ-loop
+mul-count c = search needs
 
 loop-holds : tie.Need-loop-holds Inv-loop μ-loop
-loop-holds c = indexing-start _ _ (c .before .before .pre .1)
+loop-holds c = (search needs, slots-none _ (c .before .before .pre .1), refl)
 
-read-requires : tie.Need-read-requires Inv-loop μ-loop
-read-requires c κs = search needs
-
-wide-requires : tie.Need-wide-requires Inv-loop μ-loop
-wide-requires c κs = search needs
+parent-requires : tie.Need-parent-requires Inv-loop μ-loop
+parent-requires c κs = search needs
 
 push-requires : tie.Need-push-requires Inv-loop μ-loop
 push-requires c κs = search needs
 
-add-v : tie.Need-add-v Inv-loop μ-loop
-add-v c = search needs
+add-s : tie.Need-add-s Inv-loop μ-loop
+add-s c = search needs
 
 loop-less : tie.Need-loop-less Inv-loop μ-loop
 loop-less c = search needs
 
 loop-again : tie.Need-loop-again Inv-loop μ-loop
-loop-again c = indexing-next (c .before .before .before .before .before .before .before .loop .inv) (c .before .before .before .before .before .before .before .before .before .before .pre .0) (c .before .before .before .before .before .before .before .before .before .before .pre .1) (c .before .before .before .before .before .before .loop-test .taken) (c .before .before .before .before .before .read .ensures) (c .before .before .before .wide .ensures) (c .before .before .push .ensures)
+loop-again c =
+    let inv = c .before .before .before .before .before .before .loop .inv in
+    let start = c .before .before .before .before .before .before .before .before .before .pre in
+    let next = slots-push (omega (arith, start .0 .few)) (slots-low (start .0)) (inv .1) (omega (arith, start .1 .size, inv .2)) (c .before .before .before .before .before .loop-test .taken) (c .before .before .before .parent .ensures) (c .before .before .push .ensures) in
+    (search needs, next .0, next .1 ∙ inv .2)
 
 same-length : tie.Need-same-length Inv-loop μ-loop
-same-length c = search needs
+same-length c = c .before .loop .inv .2
 
 returns : tie.Need-returns Inv-loop μ-loop
-returns c = indexing-done (c .before .loop .inv) (c .loop-test .left)
+returns c = indexed-count (c .before .loop .inv .1) (omega arith)
 
 pub index-records-spec : {M : Type 1} → statement M
 index-records-spec =
@@ -43,11 +54,11 @@ index-records-spec =
     (tie.spec
     Inv-loop
     μ-loop
+    mul-count
     loop-holds
-    read-requires
-    wide-requires
+    parent-requires
     push-requires
-    add-v
+    add-s
     loop-less
     loop-again
     same-length

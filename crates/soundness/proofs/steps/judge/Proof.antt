@@ -1,5 +1,5 @@
 use Rattle.soundness.proofs.laws.Deciding.{decides-false, decides-same, refused, granted}
-use Rattle.soundness.proofs.laws.Steps.{half-of, rest-of, cornered-from, second-small, sound-decided}
+use Rattle.soundness.proofs.laws.Steps.{half-of, rest-of, cornered-from, parents-low, sound-decided}
 use borrow.Author.Needs.{needs}
 use Rattle.soundness.proofs.steps.judge.Statement.{statement}
 use Rattle.soundness.proofs.steps.judge.Tie as tie
@@ -24,7 +24,7 @@ returns-2 c = decides-false (λ s. refused (c .before .before .before .rest .ens
 
 leaves-apart-requires : tie.Need-leaves-apart-requires
 leaves-apart-requires c κs =
-    (cornered-from (c .before .before .before .before .before .before .before .before .before .before .before .before .before .before .before .pre .0) (granted (c .before .before .before .before .before .before .before .before .before .half .ensures .decides) (c .before .before .before .before .before .before .if1 .left)) (granted (c .before .before .before .before .rest .ensures .decides) (c .before .if2 .left)), (second-small (c .before .before .before .before .before .before .before .before .before .before .before .before .before .before .before .pre .0) (granted (c .before .before .before .before .before .before .before .before .before .half .ensures .decides) (c .before .before .before .before .before .before .if1 .left)) (granted (c .before .before .before .before .rest .ensures .decides) (c .before .if2 .left)), rw (c .before .before .before .before .rest .ensures .size, c .before .before .before .before .before .before .before .before .before .half .ensures .size) (c .before .before .before .before .before .before .before .before .before .before .before .before .before .before .before .pre .1)))
+    (cornered-from (c .before .before .before .before .before .before .before .before .before .before .before .before .before .before .before .pre .0) (granted (c .before .before .before .before .before .before .before .before .before .half .ensures .decides) (c .before .before .before .before .before .before .if1 .left)) (granted (c .before .before .before .before .rest .ensures .decides) (c .before .if2 .left)), (parents-low (c .before .before .before .before .before .before .before .before .before .before .before .before .before .before .before .pre .0) (granted (c .before .before .before .before .before .before .before .before .before .half .ensures .decides) (c .before .before .before .before .before .before .if1 .left)) (granted (c .before .before .before .before .rest .ensures .decides) (c .before .if2 .left)), rw (c .before .before .before .before .rest .ensures .size, c .before .before .before .before .before .before .before .before .before .half .ensures .size) (c .before .before .before .before .before .before .before .before .before .before .before .before .before .before .before .pre .1)))
 
 same-length-3 : tie.Need-same-length-3
 same-length-3 c = search needs

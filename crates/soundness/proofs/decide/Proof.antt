@@ -1,8 +1,7 @@
-use lib.Dec.{lit≤}
 use Rattle.soundness.proofs.laws.Deciding.{decides-false, refused, granted}
 use borrow.Author.Needs.{needs}
-use Rattle.soundness.proofs.check.Statement.{statement}
-use Rattle.soundness.proofs.check.Tie as tie
+use Rattle.soundness.proofs.decide.Statement.{statement}
+use Rattle.soundness.proofs.decide.Tie as tie
 
 fits-requires : tie.Need-fits-requires
 fits-requires c κs = search needs
@@ -22,17 +21,25 @@ initials-requires c κs = search needs
 roots-requires : tie.Need-roots-requires
 roots-requires c κs = search needs
 
-slice-aggregate-judge : tie.Need-slice-aggregate-judge
-slice-aggregate-judge c = search needs
-
 judge-requires : tie.Need-judge-requires
-judge-requires c κs = (record { fitting = granted (c .before .before .before .before .before .before .fits2 .ensures) (c .before .before .before .before .before .if1 .left); unused = granted (c .before .before .before .before .unused-zero .ensures) (c .before .before .before .if2 .left); initials = c .before .before .initials .ensures; roots = c .before .roots .ensures }, lit≤ tt)
+judge-requires c κs = (
+  record {
+    fitting = granted (c .before .before .before .before .before .before .fits2 .ensures) (c .before .before .before .before .before .if1 .left);
+    unused = granted (c .before .before .before .before .unused-zero .ensures) (c .before .before .before .if2 .left);
+    initials = c .before .before .initials .ensures;
+    roots = c .before .roots .ensures;
+  },
+  search needs,
+)
+
+same-length : tie.Need-same-length
+same-length c = search needs
 
 returns-3 : tie.Need-returns-3
 returns-3 c = search needs
 
-pub check-spec : {M : Type 1} → statement M
-check-spec =
+pub decide-spec : {M : Type 1} → statement M
+decide-spec =
     tie.close
     (tie.spec
     fits-requires
@@ -41,6 +48,6 @@ check-spec =
     returns-2
     initials-requires
     roots-requires
-    slice-aggregate-judge
     judge-requires
+    same-length
     returns-3)

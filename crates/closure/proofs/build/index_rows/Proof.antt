@@ -1,0 +1,50 @@
+use Prim.Native.Nat.{_-_}
+use borrow.Author.Needs.{needs}
+use Rattle.closure.proofs.laws.Build.{Building, building}
+use Rattle.closure.proofs.build.index_rows.Statement.{statement}
+use Rattle.closure.proofs.build.index_rows.Tie as tie
+
+abbrev Inv-loop : tie.InvT-loop
+Inv-loop rows scratch₀ n k₀ scratch k = Building rows scratch n k
+
+abbrev μ-loop : tie.MeasureT-loop
+μ-loop rows scratch₀ n k₀ scratch k = n - k
+
+clear-heads-requires : tie.Need-clear-heads-requires Inv-loop μ-loop
+clear-heads-requires c κs = search (building, needs)
+
+loop-holds : tie.Need-loop-holds Inv-loop μ-loop
+loop-holds c = search (building, needs)
+
+index-standing-requires : tie.Need-index-standing-requires Inv-loop μ-loop
+index-standing-requires c κs = search (building, needs)
+
+add-k : tie.Need-add-k Inv-loop μ-loop
+add-k c = search (building, needs)
+
+loop-less : tie.Need-loop-less Inv-loop μ-loop
+loop-less c = search (building, needs)
+
+loop-again : tie.Need-loop-again Inv-loop μ-loop
+loop-again c = search (building, needs)
+
+same-length : tie.Need-same-length Inv-loop μ-loop
+same-length c = search (building, needs)
+
+returns : tie.Need-returns Inv-loop μ-loop
+returns c = search (building, needs)
+
+pub index-rows-spec : {M : Type 1} → statement M
+index-rows-spec =
+    tie.close
+    (tie.spec
+    Inv-loop
+    μ-loop
+    clear-heads-requires
+    loop-holds
+    index-standing-requires
+    add-k
+    loop-less
+    loop-again
+    same-length
+    returns)

@@ -1,0 +1,15 @@
+use borrow.Author.Needs.{needs}
+use Rattle.closure.proofs.cutting.edge_of.Statement.{statement}
+use Rattle.closure.proofs.cutting.edge_of.Tie as tie
+
+read-requires : tie.Need-read-requires
+read-requires c κs = search needs
+
+edge-requires : tie.Need-edge-requires
+edge-requires c κs = search needs
+
+returns : tie.Need-returns
+returns c = cc
+
+pub edge-of-spec : {M : Type 1} → statement M
+edge-of-spec = tie.close (tie.spec read-requires edge-requires returns)

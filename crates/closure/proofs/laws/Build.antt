@@ -1,0 +1,89 @@
+-- The index while rows that stand are put into it.
+use mathlib.Core.Path.{_≡_, refl, ap, _∙_}
+use mathlib.Core.List.{List}
+use Prim.Native.Nat.{ℕ, _+_, _*_, _≤_, _<_}
+use native.Mathlib.Decide.{ℕ-discrete}
+use native.Mathlib.Omega.{arith}
+use lib.ListN.{length, getD, set, length-set}
+use lib.Seq.{getD-set-same, getD-set-other}
+use Rattle.split.specs.declared.row.Row.{Row}
+use Rattle.split.specs.Split.{at}
+use Rattle.split.specs.Row.{cornersOf}
+use Rattle.chain.specs.Chain.{Indexed, pushed}
+use Rattle.chain.proofs.laws.Pushed.{pushed-length}
+use Rattle.chain.proofs.laws.Index.{indexed-none, indexed-push-one}
+use Rattle.tables.specs.Layout.{rowAt}
+use Rattle.soundness.specs.Check.{corner}
+use Rattle.closure.specs.State.{linksAt, scratchLength, rowPushed, State}
+use Rattle.closure.specs.Build.{Indexable, Headless}
+use Rattle.closure.proofs.laws.Index.{corner-row}
+
+-- ---- the heads
+
+-- the first i heads are cleared
+pub record Clearing (s : List ℕ) (i : ℕ) : Type 0 where
+  pub size : length s ≡ scratchLength
+  pub within : i ≤ linksAt
+  pub heads : (v : ℕ) → v < i → getD s v 0 ≡ 0
+
+pub clearing-start : {s : List ℕ} → length s ≡ scratchLength → Clearing s 0
+clearing-start e = record { size = e; within = omega arith; heads = λ v h. absurd (omega arith) }
+
+pub clearing-next : {s : List ℕ} {i : ℕ} → Clearing s i → i < linksAt → Clearing (set s i 0) (i + 1)
+clearing-next {s} {i} c h = record {
+  size = length-set s i 0 ∙ c .size;
+  within = omega arith;
+  heads = λ v l. elim (ℕ-discrete v i) [
+    | yes e ↦ rw e (getD-set-same s i 0 0 (omega (arith, c .size)))
+    | no d ↦ getD-set-other s i v 0 0 d ∙ c .heads v (omega arith)
+  ];
+}
+
+pub clearing-end : {s : List ℕ} {i : ℕ} → Clearing s i → linksAt ≤ i → Headless s
+clearing-end c h = record { size = c .size; heads = λ v l. c .heads v (omega arith) }
+
+pub ruleset clearing = (clearing-start, clearing-next, clearing-end)
+
+-- ---- the rows
+
+-- the first k rows are in the index
+pub record Building (w s : List ℕ) (n k : ℕ) : Type 0 where
+  pub size : length s ≡ scratchLength
+  pub index : Indexed (corner w) (4 * k) linksAt s
+  pub within : k ≤ n
+
+module _ {w s₀ : List ℕ} {n : ℕ} (x : Indexable w s₀ n) where
+  pub building-start : {s : List ℕ} → Headless s → Building w s n 0
+  building-start {s} z = record { size = z .size; index = indexed-none (corner w) linksAt s (omega (arith, z .size)) (z .heads); within = omega arith }
+
+  -- one slot of row k more
+  slot-added : (k slot next q : ℕ) (l : List ℕ) → k < n → q ≤ 3 → slot ≡ 4 * k + q → next ≡ slot + 1 → length l ≡ scratchLength → Indexed (corner w) slot linksAt l → Indexed (corner w) next linksAt (pushed l linksAt slot (at (cornersOf (rowAt w k)) q))
+  slot-added k slot next q l b h e f size i =
+      let key : corner w slot ≡ at (cornersOf (rowAt w k)) q = ap (corner w) e ∙ corner-row w k q h in
+      rw (f, ← key) (indexed-push-one i (x .low slot (omega arith)) (omega (arith, x .few)) (omega (arith, x .few)))
+
+  row-added : (k : ℕ) (s : List ℕ) → k < n → length s ≡ scratchLength → Indexed (corner w) (4 * k) linksAt s → Indexed (corner w) (4 * (k + 1)) linksAt (rowPushed s k (rowAt w k))
+  unfolding rowPushed
+  row-added k s h e i =
+      slot-added k (4 * k + 3) (4 * (k + 1)) 3 _ h (omega arith) refl (omega arith) (pushed-length _ _ _ _ ∙ pushed-length _ _ _ _ ∙ pushed-length _ _ _ _ ∙ e)
+      (slot-added k (4 * k + 2) (4 * k + 3) 2 _ h (omega arith) refl (omega arith) (pushed-length _ _ _ _ ∙ pushed-length _ _ _ _ ∙ e)
+      (slot-added k (4 * k + 1) (4 * k + 2) 1 _ h (omega arith) refl (omega arith) (pushed-length _ _ _ _ ∙ e)
+      (slot-added k (4 * k) (4 * k + 1) 0 s h (omega arith) (omega arith) (omega arith) e i)))
+
+  length-added : (k : ℕ) (s : List ℕ) (r : Row) → length (rowPushed s k r) ≡ length s
+  unfolding rowPushed
+  length-added k s r = pushed-length _ _ _ _ ∙ pushed-length _ _ _ _ ∙ pushed-length _ _ _ _ ∙ pushed-length _ _ _ _
+
+  pub building-room : {s : List ℕ} {k : ℕ} → Building w s n k → k < n → k < 100000
+  building-room b h = omega (arith, x .few)
+
+  pub building-next : {s s' : List ℕ} {k : ℕ} → Building w s n k → k < n → s' ≡ rowPushed s k (rowAt w k) → Building w s' n (k + 1)
+  building-next {s} {s'} {k} b h e =
+      rw e (record { size = length-added k s (rowAt w k) ∙ b .size; index = row-added k s h (b .size) (b .index); within = omega arith })
+
+  pub building-end : {s : List ℕ} {k : ℕ} → Building w s n k → n ≤ k → State w s n
+  building-end {s} {k} b h =
+      let all : k ≡ n = omega (arith, b .within) in
+      record { size = b .size; index = rw all at (b .index); few = x .few; fits = x .fits; low = x .low; blank = x .blank }
+
+pub ruleset building = (building-start, building-room, building-next, building-end)

@@ -1,0 +1,253 @@
+-- A call on sound tables: undone it leaves them as they were, and done it leaves the run's mesh laid out.
+use mathlib.Core.Path.{_≡_, refl, sym, ap, subst, _∙_}
+use mathlib.Core.Bool.{Bool, true, false, not, _&&_, cond}
+use mathlib.Core.List.{List}
+use mathlib.Core.Logic.{_⊎_, inl, inr}
+use Prim.Native.Nat.{ℕ, _+_, _-_, _/_, _≤_, _<_}
+use native.Mathlib.Omega.{arith}
+use lib.Dec.{leb, ltb}
+use lib.ListN.{length, getD, drop}
+use lib.Ieee.{Float}
+use borrow.Author.Tests.{le-leb, lt-leb, lt-ltb, le-ltb, not-true, not-false}
+use Rattle.split.specs.declared.row.Row.{Row}
+use Rattle.split.proofs.laws.Places.{le-or-lt}
+use Rattle.tables.specs.declared.layout.Counts.{Counts}
+use Rattle.tables.specs.declared.record.Record.{Record}
+use Rattle.tables.specs.Layout.{rowWidth, recordWidth, pointWidth, noRow, noRecord, noFloat, pointCells, recordCells, rowCells, pointAt, recordAt, rowAt, roomOf}
+use Rattle.tables.specs.Mesh.{Lent, Mesh, meshOf, laid, upTo, flat, padded}
+use Rattle.tables.proofs.laws.View.{length-up-to, up-to-at}
+use Rattle.opening.specs.declared.answer.Found.the-variants.{At, Nowhere}
+use Rattle.opening.specs.declared.answer.Verdict.{Verdict}
+use Rattle.opening.specs.declared.answer.Verdict.the-variants as verdict
+use Rattle.opening.specs.Search.{first}
+use Rattle.soundness.specs.Sound.{Sound}
+use Rattle.soundness.specs.Check.{Decides, Cleared, lent}
+use Rattle.run.specs.Skeleton.{Skeleton, meshed, extended}
+use Rattle.run.specs.Ready.{Reach}
+use Rattle.run.specs.Run.{Within}
+use Rattle.run.proofs.laws.Grows.{Grows}
+use Rattle.run.proofs.laws.Reach.{reach-ready, reach-grows}
+use Rattle.run.proofs.laws.Room.{enough-room}
+use Rattle.run.proofs.laws.Refused.{no-room}
+use Rattle.closure.specs.declared.answer.Refined.{Refined}
+use Rattle.closure.specs.declared.answer.Refined.the-variants.{Done, Refused}
+use Rattle.closure.specs.declared.step.Step.{Step}
+use Rattle.closure.specs.declared.step.Step.the-variants as step
+use Rattle.closure.specs.State.{rowsOf, recordsOf, seen, scratchLength, State}
+use Rattle.closure.specs.Build.{Indexable}
+use Rattle.closure.specs.Refining.{Tables}
+use Rattle.closure.specs.Marks.{onMarks}
+use Rattle.closure.specs.Marking.{AllDue, Ended, Failed, Marks}
+use Rattle.closure.specs.Undo.{restored, Emptied, Undoable, Undone}
+use Rattle.closure.specs.Refine.{absent, roomIn, Refuses, Accepts, OnRoom, outgrown, fits, OnDepth, deep, shallow, OnMarks, missing, present, Refines, unsound, sound}
+use Rattle.closure.specs.Call.{Undoing, Undoes, Finishing, Finishes, Closable, Closes, Callable, Calls}
+use Rattle.closure.proofs.laws.Tables.{rows-same, records-same}
+use Rattle.closure.proofs.laws.Blank.{rows-blank, records-blank, points-blank, rows-padded, records-padded, points-padded}
+use Rattle.closure.proofs.laws.Restored.{restored-row}
+use Rattle.closure.proofs.laws.Entry.{Roomy, roomy, entry-mesh, entry-ready, entry-index, entry-tables, entry-steady}
+use Rattle.closure.proofs.laws.Marking.{within-room}
+use Rattle.closure.proofs.laws.Judged.{told, Told, deeps, refused-never, mark-fine, marks-markable, marks-shallow, marks-deep}
+use Rattle.closure.proofs.laws.Judged as judged
+
+-- ---- what a passed verdict tells
+
+pub record Fair (w : List ℕ) (n : ℕ) (marks : List ℕ) : Type 0 where
+  pub there : first (absent n marks) (length marks) ≡ Nowhere
+  pub shallow : deeps w n marks ≡ false
+
+fair : {w : List ℕ} {n : ℕ} {marks : List ℕ} → onMarks w n marks ≡ verdict.Passed → Fair w n marks
+fair {w} {n} {marks} e = elim (told w n marks) [
+  | judged.missing p a b ↦ refused-never (sym b ∙ e)
+  | judged.deep a d b ↦ refused-never (sym b ∙ e)
+  | judged.passed a d b ↦ record { there = a; shallow = d }
+]
+
+module _ {p : List Float} {r w s : List ℕ} {c : Counts} {marks : List ℕ} (x : Closable p r w s c marks) where
+  abbrev room : Counts
+  room = roomOf (length p) (length r) (length w)
+
+  abbrev ok : Fair w (c .rows) marks
+  ok = fair {w = w} {n = c .rows} {marks = marks} (x .passed)
+
+  abbrev fit : Roomy (length p) (length r) (length w)
+  fit = roomy (length p) (length r) (length w)
+
+  pub close-index : Indexable w s (c .rows)
+  close-index = entry-index (x .sound) (x .size)
+
+  pub close-due : {o : Counts} {s' : List ℕ} → o ≡ room → State w s' (c .rows) → AllDue r w s' c o marks
+  close-due e z = rw e (record { steady = entry-steady (x .sound) z; fine = mark-fine (x .sound) marks (ok .there) (ok .shallow) })
+
+  entry-within : Within room (seen r w c)
+  entry-within = record { vertices = rw (length-up-to (recordAt r) (c .vertices)) (x .sound .fitting .vertices-fit); rows = rw (length-up-to (rowAt w) (c .rows)) (x .sound .fitting .rows-fit) }
+
+  -- ---- no room
+
+  module _ {o : Counts} (eo : o ≡ room) {r' w' s' : List ℕ} {a : Step} (k : Marks r w c o marks a r' w' s') {d : Counts} (ea : a ≡ step.Full d) where
+    abbrev f : Failed (seen r w c) marks o r' w' s' d
+    f = k .full d ea
+
+    abbrev er : length r' ≡ length r
+    er = k .records-size
+
+    abbrev ew : length w' ≡ length w
+    ew = k .rows-size
+
+    pub close-undo : Undoing r' w' c d
+    close-undo =
+        let t = f .tables in
+        record {
+          rows = record { old = rw ew (omega (arith, x .sound .fitting .rows-fit, fit .rows-fit)); all = omega (arith, t .rows-in, t .rows-fit) };
+          records = omega (arith, t .vertices-in, t .records-fit);
+        }
+
+    module _ {r'' w'' : List ℕ} (u : Undoes r' w' c d r'' w'') where
+      grows : Grows (meshed (meshOf (lent p r w) c .points) (seen r w c)) (meshed (meshOf (lent p r w) c .points) (seen r' w' d)) (x .sound .initials) (x .sound .roots)
+      grows = reach-grows (f .reach) (entry-ready (x .sound))
+
+      record-back : (k : ℕ) → recordAt r'' k ≡ recordAt r k
+      record-back k = u .records .things k ∙ go (le-or-lt (c .vertices) k) (le-or-lt (d .vertices) k)
+        where
+          blank : c .vertices ≤ k → recordAt r k ≡ noRecord
+          blank h = records-blank r (c .vertices) (x .sound .unused .records) k h
+
+          more : c .vertices ≤ d .vertices
+          more = omega (arith, grows .more-vertices, length-up-to (recordAt r) (c .vertices), length-up-to (recordAt r') (d .vertices))
+
+          go : (c .vertices ≤ k) ⊎ (k < c .vertices) → (d .vertices ≤ k) ⊎ (k < d .vertices) → cond (leb (c .vertices) k && ltb k (d .vertices)) noRecord (recordAt r' k) ≡ recordAt r k
+          go (inl a) (inl b) = rw (le-leb (c .vertices) k a, le-ltb k (d .vertices) b) (f .tables .blank k b ∙ sym (blank a))
+          go (inl a) (inr b) = rw (le-leb (c .vertices) k a, lt-ltb k (d .vertices) b) (sym (blank a))
+          go (inr a) b =
+              rw (lt-leb (c .vertices) k a)
+              (sym (up-to-at (recordAt r') (d .vertices) k noRecord (omega (arith, more))) ∙ grows .record-old k (rw (length-up-to (recordAt r) (c .vertices)) a) ∙ up-to-at (recordAt r) (c .vertices) k noRecord a)
+
+      row-back : (k : ℕ) → rowAt w'' k ≡ rowAt w k
+      row-back k = go (le-or-lt (c .rows) k)
+        where
+          size : length (rowsOf w (c .rows)) ≡ c .rows
+          size = length-up-to (rowAt w) (c .rows)
+
+          more : c .rows ≤ d .rows
+          more = omega (arith, grows .more-rows, size, length-up-to (rowAt w') (d .rows))
+
+          go : (c .rows ≤ k) ⊎ (k < c .rows) → rowAt w'' k ≡ rowAt w k
+          go (inl a) = u .rows .blank (f .tables .state .blank) k a ∙ sym (rows-blank w (c .rows) (x .sound .unused .rows) k a)
+          go (inr a) =
+              u .rows .rows k a ∙ ap (restored (c .rows)) (sym (up-to-at (rowAt w') (d .rows) k noRow (omega (arith, more))))
+              ∙ subst (λ (n : ℕ). restored n (getD (rowsOf w' (d .rows)) k noRow) ≡ getD (rowsOf w (c .rows)) k noRow) size (restored-row (entry-ready (x .sound) .grown) (reach-ready (f .reach) (entry-ready (x .sound)) .grown) grows k (rw size a))
+              ∙ up-to-at (rowAt w) (c .rows) k noRow a
+
+      tables-back : lent p r'' w'' ≡ lent p r w
+      tables-back = λ j. record {
+        points = p;
+        records = records-same r r'' (x .sound .fitting .records) (u .records .size ∙ er) record-back j;
+        rows = rows-same w w'' (x .sound .fitting .rows) (u .rows .size ∙ ew) row-back j;
+      }
+
+      pub close-full : Closes (lent p r w) c marks (Refused 2 0) (lent p r'' w'')
+      close-full = record {
+        room = λ y. outgrown
+            (rw (entry-mesh y) at (no-room (meshOf (lent p r w) c .points) (y .initials) (y .roots) (rw eo at (f .stuck)) (entry-ready y) entry-within (fit .few-vertices) (marks-markable y marks (ok .there) (ok .shallow))))
+            (record { answers = refl; leaves = tables-back });
+      }
+
+  -- ---- all marks done
+
+  module _ {o : Counts} (eo : o ≡ room) {r' w' s' : List ℕ} {b : Step} (k : Marks r w c o marks b r' w' s') {d : Counts} (eb : b ≡ step.Done d) where
+    abbrev ended : Ended (seen r w c) marks o r' w' s' d
+    ended = k .done d eb
+
+    abbrev lr : length r' ≡ length r
+    lr = k .records-size
+
+    abbrev lw : length w' ≡ length w
+    lw = k .rows-size
+
+    grown-to : Grows (meshed (meshOf (lent p r w) c .points) (seen r w c)) (meshed (meshOf (lent p r w) c .points) (seen r' w' d)) (x .sound .initials) (x .sound .roots)
+    grown-to = reach-grows (ended .reach) (entry-ready (x .sound))
+
+    inside : (d .vertices ≤ room .vertices) × (d .rows ≤ room .rows)
+    inside = (rw eo at (ended .tables .vertices-in), rw eo at (ended .tables .rows-in))
+
+    pub close-finish : Finishing p c d
+    close-finish = record {
+      points = record {
+        ordered = omega (arith, grown-to .more-vertices, length-up-to (recordAt r) (c .vertices), length-up-to (recordAt r') (d .vertices));
+        fits = omega (arith, inside .0, fit .points-fit);
+        blank = points-blank p (c .vertices) (x .sound .unused .points);
+      };
+      rows = omega (arith, grown-to .more-rows, length-up-to (rowAt w) (c .rows), length-up-to (rowAt w') (d .rows));
+    }
+
+    module _ {a : Refined} {p' : List Float} (g : Finishes p r' c d a p') where
+      points-are : upTo (pointAt p') (d .vertices) ≡ meshed (meshOf (lent p r w) c .points) (seen r' w' d) .points
+      unfolding meshOf
+      points-are = g .points .points ∙ ap (λ (n : ℕ). extended (upTo (pointAt p) (c .vertices)) (drop n (recordsOf r' (d .vertices)))) (sym (length-up-to (pointAt p) (c .vertices)))
+
+      points-laid : p' ≡ padded (length p) noFloat (flat pointCells (meshed (meshOf (lent p r w) c .points) (seen r' w' d) .points))
+      points-laid = rw (g .points .size, points-are) at (points-padded p' (d .vertices) (rw (g .points .size) (x .sound .fitting .points)) (rw (g .points .size) (omega (arith, inside .0, fit .points-fit))) (g .points .blank))
+
+      records-laid : r' ≡ padded (length r) 0 (flat recordCells (recordsOf r' (d .vertices)))
+      records-laid = rw lr at (records-padded r' (d .vertices) (rw lr (x .sound .fitting .records)) (rw lr (omega (arith, inside .0, fit .records-fit))) (ended .tables .blank))
+
+      rows-laid : w' ≡ padded (length w) 0 (flat rowCells (rowsOf w' (d .rows)))
+      rows-laid = rw lw at (rows-padded w' (d .rows) (rw lw (x .sound .fitting .rows)) (rw lw (omega (arith, inside .1, fit .rows-fit))) (ended .tables .state .blank))
+
+      accepted : Accepts (lent p r w) c marks a (lent p' r' w')
+      unfolding meshOf laid
+      accepted = record {
+        after = seen r' w' d;
+        run = ended .run;
+        answers = g .answers ∙ (λ j. Done (record { vertices = sym (length-up-to (recordAt r') (d .vertices)) j; rows = sym (length-up-to (rowAt w') (d .rows)) j }) ((sym (length-up-to (rowAt w') (d .rows)) j - c .rows) / 2));
+        leaves = λ j. record { points = points-laid j; records = records-laid j; rows = rows-laid j };
+      }
+
+      pub close-done : Closes (lent p r w) c marks a (lent p' r' w')
+      close-done = record {
+        room = λ y. fits
+            (λ z. enough-room (meshOf (lent p r w) c .points) (y .initials) (y .roots) (ended .run) (entry-ready y) (omega (arith, length-up-to (recordAt r') (d .vertices), inside .0, fit .few-vertices)) (marks-markable y marks (ok .there) (ok .shallow)) room
+            (record { vertices = rw (length-up-to (recordAt r') (d .vertices)) (inside .0); rows = rw (length-up-to (rowAt w') (d .rows)) (inside .1) }) (rw (entry-mesh y) z))
+            accepted;
+      }
+
+pub ruleset closing = (close-index, close-due, close-undo, close-full, close-finish, close-done)
+
+-- ---- the call
+
+module _ {p : List Float} {r w s : List ℕ} {c : Counts} (x : Callable p r w s c) {marks : List ℕ} {v : Verdict} (e : v ≡ onMarks w (c .rows) marks) where
+  refused : {n q : ℕ} → v ≡ verdict.Refused n q → Told w (c .rows) marks v → Calls (lent p r w) c marks (Refused n q) (lent p r w)
+  refused {n} {q} f (judged.missing k a b) = record { judged = λ y. missing k a (record { answers = sym (same f b); leaves = refl }) }
+    where
+      same : v ≡ verdict.Refused n q → v ≡ verdict.Refused 10 k → Refused 10 k ≡ Refused n q
+      same f b = let z : verdict.Refused 10 k ≡ verdict.Refused n q = sym b ∙ f in cc
+  refused {n} {q} f (judged.deep a d b) = record { judged = λ y. present a (deep (marks-deep y marks a d) (record { answers = sym (same f b); leaves = refl })) }
+    where
+      same : v ≡ verdict.Refused n q → v ≡ verdict.Refused 11 0 → Refused 11 0 ≡ Refused n q
+      same f b = let z : verdict.Refused 11 0 ≡ verdict.Refused n q = sym b ∙ f in cc
+  refused f (judged.passed a d b) = refused-never (sym f ∙ b)
+
+  pub call-refused : {n q : ℕ} → v ≡ verdict.Refused n q → Calls (lent p r w) c marks (Refused n q) (lent p r w)
+  call-refused f = refused f (rw e (told w (c .rows) marks))
+
+  module _ (f : v ≡ verdict.Passed) where
+    pub call-closable : Closable p r w s c marks
+    call-closable = record { sound = x .sound; size = x .size; passed = sym e ∙ f }
+
+    pub call-closed : {a : Refined} {t : Lent} → Closes (lent p r w) c marks a t → Calls (lent p r w) c marks a t
+    call-closed g = let ok = fair {w = w} {n = c .rows} {marks = marks} (sym e ∙ f) in record { judged = λ y. present (ok .there) (shallow (marks-shallow y marks (ok .there) (ok .shallow)) (g .room y)) }
+
+pub ruleset calling = (call-refused, call-closable, call-closed)
+
+-- ---- the whole
+
+module _ {t : Lent} {c : Counts} {marks : List ℕ} {b : Bool} (d : Decides (Sound t c) b) where
+  pub refine-unsound : not b ≡ true → Refines t c marks (Refused 9 0) t
+  refine-unsound e = unsound (d .no (not-true b e)) (record { answers = refl; leaves = refl })
+
+  pub refine-sound : not b ≡ false → {a : Refined} {t' : Lent} → Calls t c marks a t' → Refines t c marks a t'
+  refine-sound e g = let s = d .yes (not-false b e) in sound s (g .judged s)
+
+pub refine-callable : {p : List Float} {r w s : List ℕ} {c : Counts} {b : Bool} → Decides (Sound (lent p r w) c) b × Cleared scratchLength s → not b ≡ false → Callable p r w s c
+refine-callable {b = b} d e = record { sound = d .0 .yes (not-false b e); size = d .1 .size }
+
+pub ruleset wholly = (refine-unsound, refine-sound, refine-callable)

@@ -1,0 +1,46 @@
+-- Looking at a patch: it is listed, and the first leaf that blocks is found.
+use mathlib.Core.Path.{_≡_, refl, sym, ap, _∙_}
+use mathlib.Core.List.{List}
+use Prim.Native.Nat.{ℕ, _≤_, _<_}
+use native.Mathlib.Omega.{arith}
+use Rattle.split.specs.declared.row.Row.{Row}
+use Rattle.split.specs.declared.row.Ends.{Ends}
+use Rattle.split.specs.Split.{number, far, at}
+use Rattle.split.specs.Row.{cornersOf, tagOf, ends, edgeOf}
+use Rattle.split.proofs.laws.Places.{le-or-lt}
+use Rattle.split.proofs.laws.Ends.{ends-rising, ends-falling}
+use Rattle.split.proofs.laws.Tags.{tag-range}
+use Rattle.split.proofs.laws.Children.{far-at}
+use Rattle.tables.specs.Layout.{noRow, rowAt}
+use Rattle.tables.proofs.laws.View.{up-to-at}
+use Rattle.opening.specs.declared.answer.Found.{Found}
+use Rattle.run.specs.Run.{holders, otherIn, blocking}
+use Rattle.run.proofs.laws.Edge.{own-both}
+use Rattle.closure.specs.State.{rowsOf, linksAt, patchIn, State, large, Gatherable, Gathers, Listed}
+use Rattle.closure.specs.Refining.{Patched, Lookable, Looks}
+use Rattle.closure.proofs.laws.Index.{Under, state-under}
+use Rattle.closure.proofs.laws.Cutting.{patched-listed}
+
+-- the larger end of a row's edge is one of its vertices
+edge-under : (n : ℕ) (r : Row) → Under n r → edgeOf r .large < n
+edge-under n r u = let h = own-both r .large in rw (← h .is) (u (h .place) (h .inside))
+
+module _ {w s : List ℕ} {n q : ℕ} (x : Lookable w s n q) {e : Ends} (is : e ≡ edgeOf (rowAt w q)) where
+  pub look-ready : Gatherable w s n e (e .large)
+  look-ready = record { state = x .state; distinct = x .distinct; end = large refl; low = rw is (edge-under linksAt (rowAt w q) (state-under (x .state) q (x .there))) }
+
+  module _ {k : ℕ} {s' : List ℕ} (g : Gathers w n e k s') where
+    patched : Patched w s' n q k
+    patched = record { patch = rw is at (g .patch); size = g .size }
+
+    pub look-listed : Listed s' n k
+    look-listed = record { size = g .state .size; few = omega (arith, g .size, g .state .few); listed = patched-listed patched }
+
+    pub look-done : {f : Found} → f ≡ otherIn (rowsOf w n) e (patchIn s' k) → Looks w n q (record { other = f; size = k }) s'
+    look-done h = record {
+      state = g .state;
+      listed = patched;
+      other = h ∙ rw (g .patch, is, ← up-to-at (rowAt w) n q noRow (x .there));
+    }
+
+pub ruleset looks = (look-ready, look-listed, look-done)

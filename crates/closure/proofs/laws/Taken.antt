@@ -1,0 +1,78 @@
+-- A call that was accepted passed every test, and sound tables are a start for its run.
+use mathlib.Core.Path.{_≡_, refl}
+use mathlib.Core.Bool.{Bool, true, false}
+use mathlib.Core.List.{List}
+use Prim.Native.Nat.{ℕ}
+use lib.ListN.{length}
+use Rattle.tables.specs.declared.layout.Counts.{Counts}
+use Rattle.tables.specs.Layout.{recordAt, rowAt}
+use Rattle.tables.specs.Mesh.{Lent, meshOf}
+use Rattle.tables.proofs.laws.View as view
+use Rattle.opening.specs.declared.answer.Found.the-variants.{Nowhere}
+use Rattle.opening.specs.Search.{first}
+use Rattle.soundness.specs.Sound.{vertices, rows, Sound}
+use Rattle.run.specs.Skeleton.{skeleton, meshed}
+use Rattle.run.specs.Ready.{Ready}
+use Rattle.run.specs.Run.{Within}
+use Rattle.run.specs.Demand.{Deep, Outgrows}
+use Rattle.run.proofs.laws.Marks.{AllMarkable}
+use Rattle.closure.specs.declared.answer.Refined.the-variants.{Done}
+use Rattle.closure.specs.Refine.{absent, roomIn, Accepts, outgrown, fits, deep, shallow, OnMarks, missing, present, Refines, unsound, sound}
+use Rattle.closure.proofs.laws.Entry.{entry-mesh, entry-ready}
+use Rattle.closure.proofs.laws.Judged.{deeps, marks-markable, marks-deep}
+use Rattle.closure.proofs.laws.Promise.{done-never, judged-by}
+
+-- ---- an accepted call passed every test
+
+pub record Taken (t : Lent) (c : Counts) (i roots : ℕ) (marks : List ℕ) (d : Counts) (n : ℕ) (t' : Lent) : Type 0 where
+  pub there : first (absent (c .rows) marks) (length marks) ≡ Nowhere
+  pub shallow : Deep (meshOf t c) roots marks → ⊥
+  pub fits : Outgrows (roomIn t) (meshOf t c) i roots marks → ⊥
+  pub accepts : Accepts t c marks (Done d n) t'
+
+module _ {t : Lent} {c : Counts} {marks : List ℕ} {d : Counts} {n : ℕ} {t' : Lent} where
+  by-marks : {i roots : ℕ} → OnMarks t c i roots marks (Done d n) t' → Taken t c i roots marks d n t'
+  by-marks (missing p e x) = done-never (x .answers)
+  by-marks (present e (deep b x)) = done-never (x .answers)
+  by-marks (present e (shallow b (outgrown o x))) = done-never (x .answers)
+  by-marks (present e (shallow b (fits o x))) = record { there = e; shallow = b; fits = o; accepts = x }
+
+  pub taken : (s : Sound t c) → Refines t c marks (Done d n) t' → Taken t c (s .initials) (s .roots) marks d n t'
+  taken s (unsound f x) = absurd (f s)
+  taken s (sound s' x) = by-marks (judged-by s s' x)
+
+  -- an accepted call was on sound tables
+  pub was-sound : Refines t c marks (Done d n) t' → Sound t c
+  was-sound (unsound f x) = done-never (x .answers)
+  was-sound (sound s x) = s
+
+-- ---- sound tables as a start for a run
+
+module _ {t : Lent} {c : Counts} (s : Sound t c) where
+  pub sound-mesh : meshed (meshOf t c .points) (skeleton (meshOf t c)) ≡ meshOf t c
+  unfolding meshOf
+  sound-mesh = entry-mesh s
+
+  pub sound-ready : Ready (meshOf t c .points) (s .initials) (s .roots) (skeleton (meshOf t c))
+  unfolding meshOf
+  sound-ready = entry-ready s
+
+  pub sound-rows : rows (meshOf t c) ≡ c .rows
+  unfolding meshOf
+  sound-rows = view.length-up-to (rowAt (t .rows)) (c .rows)
+
+  pub sound-vertices : vertices (meshOf t c) ≡ c .vertices
+  unfolding meshOf
+  sound-vertices = view.length-up-to (recordAt (t .records)) (c .vertices)
+
+  pub sound-within : Within (roomIn t) (skeleton (meshOf t c))
+  sound-within = record { vertices = rw sound-vertices (s .fitting .vertices-fit); rows = rw sound-rows (s .fitting .rows-fit) }
+
+  -- marks that are there and do not need too deep an element
+  pub sound-markable : {marks : List ℕ} → first (absent (c .rows) marks) (length marks) ≡ Nowhere → (Deep (meshOf t c) (s .roots) marks → ⊥) → AllMarkable (skeleton (meshOf t c)) marks
+  unfolding meshOf
+  sound-markable {marks} e n = go (deeps (t .rows) (c .rows) marks) refl
+    where
+      go : (b : Bool) → deeps (t .rows) (c .rows) marks ≡ b → AllMarkable (skeleton (meshOf t c)) marks
+      go true f = absurd (n (marks-deep s marks e f))
+      go false f = marks-markable s marks e f

@@ -1,0 +1,91 @@
+use borrow.Author.Needs.{needs}
+use Prim.Native.Nat.{_-_}
+use Rattle.closure.specs.Marking.{Marking}
+use Rattle.closure.proofs.laws.Marking.{marking}
+use Rattle.closure.proofs.marks.refine_marks.Statement.{statement}
+use Rattle.closure.proofs.marks.refine_marks.Tie as tie
+
+abbrev Inv-loop : tie.InvT-loop
+Inv-loop records₀ rows₀ scratch₀ room marks n d₀ j₀ records rows scratch d j = Marking records₀ rows₀ d₀ room marks records rows scratch d j
+
+abbrev μ-loop : tie.MeasureT-loop
+μ-loop records₀ rows₀ scratch₀ room marks n d₀ j₀ records rows scratch d j = n - j
+
+loop-holds : tie.Need-loop-holds Inv-loop μ-loop
+loop-holds c = search (marking, needs)
+
+mul-wide : tie.Need-mul-wide Inv-loop μ-loop
+mul-wide c = search (marking, needs)
+
+shared-slice-read-wide : tie.Need-shared-slice-read-wide Inv-loop μ-loop
+shared-slice-read-wide c = search (marking, needs)
+
+wide-requires : tie.Need-wide-requires Inv-loop μ-loop
+wide-requires c κs = search (marking, needs)
+
+add-j : tie.Need-add-j Inv-loop μ-loop
+add-j c = search (marking, needs)
+
+refine-mark-requires : tie.Need-refine-mark-requires Inv-loop μ-loop
+refine-mark-requires c κs = search (marking, needs)
+
+enum-known-step : tie.Need-enum-known-step Inv-loop μ-loop
+enum-known-step c = search (marking, needs)
+
+same-length : tie.Need-same-length Inv-loop μ-loop
+same-length c = search (marking, needs)
+
+same-length-2 : tie.Need-same-length-2 Inv-loop μ-loop
+same-length-2 c = search (marking, needs)
+
+same-length-3 : tie.Need-same-length-3 Inv-loop μ-loop
+same-length-3 c = search (marking, needs)
+
+returns : tie.Need-returns Inv-loop μ-loop
+returns c = search (marking, needs)
+
+enum-known-step-2 : tie.Need-enum-known-step-2 Inv-loop μ-loop
+enum-known-step-2 c = search (marking, needs)
+
+loop-less : tie.Need-loop-less Inv-loop μ-loop
+loop-less c = search (marking, needs)
+
+loop-again : tie.Need-loop-again Inv-loop μ-loop
+loop-again c = search (marking, needs)
+
+same-length-4 : tie.Need-same-length-4 Inv-loop μ-loop
+same-length-4 c = search (marking, needs)
+
+same-length-5 : tie.Need-same-length-5 Inv-loop μ-loop
+same-length-5 c = search (marking, needs)
+
+same-length-6 : tie.Need-same-length-6 Inv-loop μ-loop
+same-length-6 c = search (marking, needs)
+
+returns-2 : tie.Need-returns-2 Inv-loop μ-loop
+returns-2 c = search (marking, needs)
+
+pub refine-marks-spec : {M : Type 1} → statement M
+refine-marks-spec =
+    tie.close
+    (tie.spec
+    Inv-loop
+    μ-loop
+    loop-holds
+    mul-wide
+    shared-slice-read-wide
+    wide-requires
+    add-j
+    refine-mark-requires
+    enum-known-step
+    same-length
+    same-length-2
+    same-length-3
+    returns
+    enum-known-step-2
+    loop-less
+    loop-again
+    same-length-4
+    same-length-5
+    same-length-6
+    returns-2)

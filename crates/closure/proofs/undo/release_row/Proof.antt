@@ -1,0 +1,22 @@
+use borrow.Author.Needs.{needs}
+use Rattle.closure.proofs.undo.release_row.Statement.{statement}
+use Rattle.closure.proofs.undo.release_row.Tie as tie
+
+read-requires : tie.Need-read-requires
+read-requires c κs = search needs
+
+restored-requires : tie.Need-restored-requires
+restored-requires c κs = search needs
+
+write-requires : tie.Need-write-requires
+write-requires c κs = search needs
+
+same-length : tie.Need-same-length
+same-length c = search needs
+
+returns : tie.Need-returns
+returns c = cc
+
+pub release-row-spec : {M : Type 1} → statement M
+release-row-spec =
+    tie.close (tie.spec read-requires restored-requires write-requires same-length returns)

@@ -1,0 +1,57 @@
+-- Refining (01, "Closure" and "What comes back"): the tests 9, 10, 11 and 2 in that order, or all marks with all that they force.
+use mathlib.Core.Path.{_≡_}
+use mathlib.Core.Bool.{Bool}
+use mathlib.Core.List.{List}
+use Prim.Native.Nat.{ℕ, _-_, _/_}
+use lib.Dec.{leb}
+use lib.ListN.{length, getD}
+use Rattle.tables.specs.declared.layout.Counts.{Counts}
+use Rattle.tables.specs.Layout.{roomOf}
+use Rattle.tables.specs.Mesh.{Lent, Mesh, meshOf, laid}
+use Rattle.opening.specs.declared.answer.Found.the-variants.{At, Nowhere}
+use Rattle.opening.specs.Search.{first}
+use Rattle.soundness.specs.Sound.{Sound}
+use Rattle.run.specs.Skeleton.{Skeleton, skeleton, meshed}
+use Rattle.run.specs.Run.{RunAll}
+use Rattle.run.specs.Demand.{Deep, Outgrows}
+use Rattle.closure.specs.declared.answer.Refined.{Refined}
+use Rattle.closure.specs.declared.answer.Refined.the-variants.{Done, Refused}
+
+-- the mark at position j is not below the row count at entry (01, number 10)
+abbrev pub absent : ℕ → List ℕ → ℕ → Bool
+absent rows marks j = leb rows (getD marks j 0)
+
+abbrev pub roomIn : Lent → Counts
+roomIn t = roomOf (length (t .points)) (length (t .records)) (length (t .rows))
+
+-- refused by this number and place, with every lent number as at entry
+pub record Refuses (t : Lent) (number place : ℕ) (r : Refined) (t' : Lent) : Type 0 where
+  pub answers : r ≡ Refused number place
+  pub leaves : t' ≡ t
+
+-- accepted: the tables are those of the run over all marks, with the midpoints' points after the rule and zeros to the end; each split added two rows
+pub record Accepts (t : Lent) (c : Counts) (marks : List ℕ) (r : Refined) (t' : Lent) : Type 0 where
+  pub after : Skeleton
+  pub run : RunAll (skeleton (meshOf t c)) marks after
+  pub answers : r ≡ Done (record { vertices = length (after .records); rows = length (after .rows) }) ((length (after .rows) - c .rows) / 2)
+  pub leaves : t' ≡ laid (meshed (meshOf t c .points) after) (length (t .points)) (length (t .records)) (length (t .rows))
+
+-- number 2: what is needed outgrows the room
+pub data OnRoom (t : Lent) (c : Counts) (i roots : ℕ) (marks : List ℕ) (r : Refined) (t' : Lent) : Type 0 where
+  outgrown : Outgrows (roomIn t) (meshOf t c) i roots marks → Refuses t 2 0 r t' → OnRoom t c i roots marks r t'
+  fits : (Outgrows (roomIn t) (meshOf t c) i roots marks → ⊥) → Accepts t c marks r t' → OnRoom t c i roots marks r t'
+
+-- number 11, before 2: what is needed would split an element of depth 60
+pub data OnDepth (t : Lent) (c : Counts) (i roots : ℕ) (marks : List ℕ) (r : Refined) (t' : Lent) : Type 0 where
+  deep : Deep (meshOf t c) roots marks → Refuses t 11 0 r t' → OnDepth t c i roots marks r t'
+  shallow : (Deep (meshOf t c) roots marks → ⊥) → OnRoom t c i roots marks r t' → OnDepth t c i roots marks r t'
+
+-- number 10, before 11: a mark that is not below the row count, at its first position
+pub data OnMarks (t : Lent) (c : Counts) (i roots : ℕ) (marks : List ℕ) (r : Refined) (t' : Lent) : Type 0 where
+  missing : (p : ℕ) → first (absent (c .rows) marks) (length marks) ≡ At p → Refuses t 10 p r t' → OnMarks t c i roots marks r t'
+  present : first (absent (c .rows) marks) (length marks) ≡ Nowhere → OnDepth t c i roots marks r t' → OnMarks t c i roots marks r t'
+
+-- The promise of refining the marks in the lent tables t with counts c: the answer r, and the tables t' afterwards. Number 9 comes first.
+pub data Refines (t : Lent) (c : Counts) (marks : List ℕ) (r : Refined) (t' : Lent) : Type 0 where
+  unsound : (Sound t c → ⊥) → Refuses t 9 0 r t' → Refines t c marks r t'
+  sound : (s : Sound t c) → OnMarks t c (s .initials) (s .roots) marks r t' → Refines t c marks r t'

@@ -1,0 +1,112 @@
+-- The tables while closure works on them, and what its parts do to them. Nothing here is promised to callers.
+use mathlib.Core.Path.{_≡_}
+use mathlib.Core.Bool.{cond}
+use mathlib.Core.List.{List, [], _∷_}
+use Prim.Native.Nat.{ℕ, _+_, _-_, _*_, _/_, _≤_, _<_}
+use lib.ListN.{length, getD}
+use Rattle.split.specs.declared.row.Row.{Row}
+use Rattle.split.specs.declared.row.Ends.{Ends}
+use Rattle.chain.specs.Chain.{Indexed, pushed}
+use Rattle.tables.specs.declared.layout.Counts.{Counts}
+use Rattle.tables.specs.declared.record.Record.{Record}
+use Rattle.tables.specs.Layout.{rowWidth, recordWidth, noRecord, noRow, recordAt, rowAt}
+use Rattle.tables.specs.Mesh.{upTo}
+use Rattle.soundness.specs.Check.{corner}
+use Rattle.run.specs.Skeleton.{Skeleton}
+use Rattle.split.specs.Split.{Distinct}
+use Rattle.split.specs.Row.{cornersOf}
+use Rattle.run.specs.Run.{holders, cut, cutAll}
+
+-- ---- the tables as lists
+
+abbrev pub rowsOf : List ℕ → ℕ → List Row
+rowsOf w n = upTo (rowAt w) n
+
+abbrev pub recordsOf : List ℕ → ℕ → List Record
+recordsOf r n = upTo (recordAt r) n
+
+abbrev pub seen : List ℕ → List ℕ → Counts → Skeleton
+seen r w c = record { records = recordsOf r (c .vertices); rows = rowsOf w (c .rows) }
+
+-- ---- the scratch table: heads, links, and at its end the patch
+
+abbrev pub linksAt : ℕ
+linksAt = 20000
+
+abbrev pub patchAt : ℕ
+patchAt = 420000
+
+abbrev pub scratchLength : ℕ
+scratchLength = 520000
+
+-- row n with its four corners appended to the index
+unfoldable pub rowPushed : List ℕ → ℕ → Row → List ℕ
+rowPushed s n r = pushed (pushed (pushed (pushed s linksAt (4 * n) (r .v0)) linksAt (4 * n + 1) (r .v1)) linksAt (4 * n + 2) (r .v2)) linksAt (4 * n + 3) (r .v3)
+
+-- the last k numbers of the scratch table: a patch, in ascending row order
+abbrev pub patchIn : List ℕ → ℕ → List ℕ
+patchIn s k = upTo (λ (j : ℕ). getD s (scratchLength - k + j) 0) k
+
+-- the first n rows are in the index, and zeros stand after them
+pub record State (w s : List ℕ) (n : ℕ) : Type 0 where
+  pub size : length s ≡ scratchLength
+  pub index : Indexed (corner w) (4 * n) linksAt s
+  pub few : n ≤ 100000
+  pub fits : n ≤ length w / rowWidth
+  pub low : (k : ℕ) → k < 4 * n → corner w k < linksAt
+  pub blank : (k : ℕ) → n ≤ k → rowAt w k ≡ noRow
+
+-- the row `leaf` may be split at the vertex v
+pub record Splittable (w s : List ℕ) (n leaf v : ℕ) : Type 0 where
+  pub state : State w s n
+  pub there : leaf < n
+  pub room : n + 2 ≤ length w / rowWidth
+  pub few : n + 2 ≤ 100000
+  pub low : v < linksAt
+
+-- one leaf was split
+pub record Halves (w s : List ℕ) (n leaf v : ℕ) (w' s' : List ℕ) : Type 0 where
+  pub size : length w' ≡ length w
+  pub state : State w' s' (n + 2)
+  pub rows : rowsOf w' (n + 2) ≡ cut v (rowsOf w n) leaf
+  pub patch : (j : ℕ) → patchAt ≤ j → getD s' j 0 ≡ getD s j 0
+
+-- the k rows that the scratch table lists may be split at the vertex v
+pub record Patchable (w s : List ℕ) (n k v : ℕ) : Type 0 where
+  pub state : State w s n
+  pub room : n + 2 * k ≤ length w / rowWidth
+  pub few : n + 2 * k ≤ 100000
+  pub low : v < linksAt
+  pub listed : (j : ℕ) → j < k → getD s (scratchLength - k + j) 0 < n
+
+-- they were split
+pub record Parted (w s : List ℕ) (n k v : ℕ) (w' s' : List ℕ) : Type 0 where
+  pub size : length w' ≡ length w
+  pub state : State w' s' (n + 2 * k)
+  pub rows : rowsOf w' (n + 2 * k) ≡ cutAll v (rowsOf w n) (patchIn s k)
+
+-- ---- the patch of an edge
+
+-- a is an end of e
+pub data EndOf (e : Ends) (a : ℕ) : Type 0 where
+  small : a ≡ e .small → EndOf e a
+  large : a ≡ e .large → EndOf e a
+
+-- the leaves holding both ends of e can be looked for among those that hold its end a
+pub record Gatherable (w s : List ℕ) (n : ℕ) (e : Ends) (a : ℕ) : Type 0 where
+  pub state : State w s n
+  pub distinct : (r : ℕ) → r < n → Distinct 3 (cornersOf (rowAt w r))
+  pub end : EndOf e a
+  pub low : a < linksAt
+
+-- they are listed
+pub record Gathers (w : List ℕ) (n : ℕ) (e : Ends) (k : ℕ) (s' : List ℕ) : Type 0 where
+  pub state : State w s' n
+  pub patch : patchIn s' k ≡ holders (rowsOf w n) e
+  pub size : k ≤ n
+
+-- the k numbers at the end of the scratch table are rows below n
+pub record Listed (s : List ℕ) (n k : ℕ) : Type 0 where
+  pub size : length s ≡ scratchLength
+  pub few : k ≤ 100000
+  pub listed : (j : ℕ) → j < k → getD s (scratchLength - k + j) 0 < n

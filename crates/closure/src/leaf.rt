@@ -1,0 +1,64 @@
+// The split of one leaf: its first child and then its second are appended (document 01, "Closure").
+use crate::index::index_row;
+use crate::index::wide;
+use split::row::Row;
+ghost use mathlib.Core.Path.{_≡_};
+ghost use Prim.Native.Nat.{_+_, _<_};
+ghost use Rattle.tables.specs.Layout.{rowAt, putRow};
+ghost use Rattle.split.specs.Row.{firstOf, secondOf};
+ghost use Rattle.run.specs.Run.{withChild};
+ghost use Rattle.closure.specs.State.{rowPushed, Splittable, Halves};
+
+fn with_child(r: Row, child: u32) -> Row
+    ensures { λ p. ⌜ p ≡ withChild r child ⌝ }
+{
+    Row {
+        v0: r.v0,
+        v1: r.v1,
+        v2: r.v2,
+        v3: r.v3,
+        tag: r.tag,
+        parent: r.parent,
+        child,
+        depth: r.depth,
+    }
+}
+
+fn append(rows: &mut [u32], scratch: &mut [u32], n: usize, r: Row)
+    requires { ⌜ n < 100000 ⌝ }
+    ensures { λ _. ⌜ now (rows .exit) ≡ putRow (now (rows .entry)) n r ⌝ }
+    ensures { λ _. ⌜ now (scratch .exit) ≡ rowPushed (now (scratch .entry)) n r ⌝ }
+{
+    tables::row::write(rows, n, r);
+    index_row(scratch, n, r);
+}
+
+// Gives a leaf its first child, the row n, and answers the leaf as it was.
+fn adopt(rows: &mut [u32], leaf: u32, n: usize) -> Row
+    requires { ⌜ n < 100000 ⌝ }
+    ensures { λ r. ⌜ r ≡ rowAt (now (rows .entry)) leaf ⌝ }
+    ensures { λ _. ⌜ now (rows .exit) ≡ putRow (now (rows .entry)) leaf (withChild (rowAt (now (rows .entry)) leaf) n) ⌝ }
+{
+    let held = tables::row::read(rows, wide(leaf));
+    tables::row::write(rows, wide(leaf), with_child(held, n as u32));
+    held
+}
+
+// Appends the two children of `held`, the row `leaf`, at the vertex v.
+fn bear(rows: &mut [u32], scratch: &mut [u32], n: usize, leaf: u32, held: Row, v: u32)
+    requires { ⌜ n + 1 < 100000 ⌝ }
+    ensures { λ _. ⌜ now (rows .exit) ≡ putRow (putRow (now (rows .entry)) n (firstOf held leaf v)) (n + 1) (secondOf held leaf v) ⌝ }
+    ensures { λ _. ⌜ now (scratch .exit) ≡ rowPushed (rowPushed (now (scratch .entry)) n (firstOf held leaf v)) (n + 1) (secondOf held leaf v) ⌝ }
+{
+    append(rows, scratch, n, split::row::first(held, leaf, v));
+    append(rows, scratch, n + 1, split::row::second(held, leaf, v));
+}
+
+// Splits a leaf of the first n rows at the vertex v.
+pub fn split_leaf(rows: &mut [u32], scratch: &mut [u32], n: usize, leaf: u32, v: u32)
+    requires { ⌜ Splittable (now rows) (now scratch) n leaf v ⌝ }
+    ensures { λ _. ⌜ Halves (now (rows .entry)) (now (scratch .entry)) n leaf v (now (rows .exit)) (now (scratch .exit)) ⌝ }
+{
+    let held = adopt(rows, leaf, n);
+    bear(rows, scratch, n, leaf, held, v);
+}

@@ -1,0 +1,43 @@
+// Refining marked leaves with closure (document 01, "Closure").
+pub mod answer;
+mod blocking;
+mod build;
+mod call;
+mod cutting;
+mod gather;
+mod index;
+mod leaf;
+mod looking;
+mod marks;
+mod patch;
+mod points;
+mod refining;
+mod step;
+mod tests;
+mod undo;
+
+use crate::answer::Refined;
+use crate::index::SCRATCH;
+use tables::layout::Counts;
+ghost use Rattle.soundness.specs.Check.{lent};
+ghost use Rattle.closure.specs.Refine.{Refines};
+
+// Refines all marked leaves with every neighbour that they force, or refuses and changes nothing.
+pub fn refine(
+    points: &mut [f64],
+    records: &mut [u32],
+    rows: &mut [u32],
+    c: Counts,
+    marks: &[u32],
+) -> Refined
+    ensures { λ r. ⌜ Refines (lent (now (points .entry)) (now (records .entry)) (now (rows .entry))) c (now (marks .entry)) r (lent (now (points .exit)) (now (records .exit)) (now (rows .exit))) ⌝ }
+{
+    let mut scratch = [0u32; SCRATCH];
+    if !soundness::check_in(points, records, rows, c, &mut scratch) {
+        return Refined::Refused {
+            number: 9,
+            place: 0,
+        };
+    }
+    call::refine_sound(points, records, rows, &mut scratch, c, marks)
+}

@@ -1,0 +1,142 @@
+// W2 to W10, their room, and the refusals 9, 10 and 2.
+use crate::show;
+use closure::answer::Refined;
+use libc::STDOUT_FILENO;
+use opening::answer::Opened;
+use tables::layout::Counts;
+ghost use Prim.Native.Nat.{_≤_};
+
+// One call; answers the counts that hold afterwards.
+fn call(
+    points: &mut [f64],
+    records: &mut [u32],
+    rows: &mut [u32],
+    c: Counts,
+    marks: &[u32],
+) -> Counts {
+    let r = closure::refine(points, records, rows, c, marks);
+    show::answer(r);
+    match r {
+        Refined::Done { counts, splits: _ } => counts,
+        Refined::Refused {
+            number: _,
+            place: _,
+        } => c,
+    }
+}
+
+// One call on what was opened, if anything.
+fn first(r: Opened, points: &mut [f64], records: &mut [u32], rows: &mut [u32], marks: &[u32]) {
+    if let Opened::Done(c) = r {
+        call(points, records, rows, c, marks);
+        return;
+    }
+    show::end_line();
+}
+
+// Opens the elements over a line of points, refines the marks in one call, and shows the tables.
+fn each(
+    elements: &[u32],
+    points: &mut [f64],
+    records: &mut [u32],
+    rows: &mut [u32],
+    marks: &[u32],
+) {
+    let line = [0.5f64; 15];
+    let r = opening::open(&line, elements, points, records, rows);
+    first(r, points, records, rows, marks);
+    show::table(records);
+    show::table(rows);
+}
+
+// The same in tables of the given room that hold 7 everywhere.
+fn one(elements: &[u32], vertices: usize, room: usize, marks: &[u32])
+    requires { ⌜ vertices ≤ 8 ⌝ }
+    requires { ⌜ room ≤ 11 ⌝ }
+{
+    let mut points = [7.0f64; 24];
+    let mut records = [7u32; 16];
+    let mut rows = [7u32; 88];
+    let p = 3 * vertices;
+    let v = 2 * vertices;
+    let w = 8 * room;
+    each(
+        elements,
+        &mut points[0..p],
+        &mut records[0..v],
+        &mut rows[0..w],
+        marks,
+    );
+}
+
+// Three calls on what was opened.
+fn thrice(r: Opened, points: &mut [f64], records: &mut [u32], rows: &mut [u32]) {
+    if let Opened::Done(c) = r {
+        let d = call(points, records, rows, c, &[0]);
+        let e = call(points, records, rows, d, &[1]);
+        call(points, records, rows, e, &[3]);
+        return;
+    }
+    show::end_line();
+}
+
+fn grown(points: &mut [f64], records: &mut [u32], rows: &mut [u32]) {
+    let line = [0.5f64; 12];
+    let r = opening::open(&line, &[0, 1, 2, 3], points, records, rows);
+    thrice(r, points, records, rows);
+    show::table(records);
+    show::table(rows);
+}
+
+fn single() {
+    io::write_all(STDOUT_FILENO, b"W2 W3 W4\n");
+    let mut points = [7.0f64; 21];
+    let mut records = [7u32; 14];
+    let mut rows = [7u32; 56];
+    grown(&mut points, &mut records, &mut rows);
+}
+
+fn worked() {
+    io::write_all(STDOUT_FILENO, b"W6\n");
+    one(&[0, 1, 2, 3, 1, 2, 3, 4], 6, 6, &[0]);
+    io::write_all(STDOUT_FILENO, b"W8\n");
+    one(&[0, 1, 2, 3, 0, 1, 3, 4, 0, 1, 2, 4], 7, 9, &[0]);
+    io::write_all(STDOUT_FILENO, b"W9\n");
+    one(&[0, 1, 2, 3, 0, 1, 3, 4, 0, 1, 2, 4], 8, 11, &[0, 0]);
+    io::write_all(STDOUT_FILENO, b"W10\n");
+    one(&[0, 1, 2, 3, 0, 1, 3, 4, 0, 1, 2, 4], 8, 11, &[2, 0]);
+    one(&[0, 1, 2, 3, 0, 1, 3, 4, 0, 1, 2, 4], 8, 11, &[0, 2]);
+}
+
+fn refused() {
+    io::write_all(STDOUT_FILENO, b"refusals\n");
+    one(&[0, 1, 2, 3, 0, 1, 3, 4, 0, 1, 2, 4], 6, 9, &[0]);
+    one(&[0, 1, 2, 3, 0, 1, 3, 4, 0, 1, 2, 4], 7, 8, &[0]);
+    one(&[0, 1, 2, 3, 0, 1, 3, 4, 0, 1, 2, 4], 7, 9, &[3]);
+    one(&[0, 1, 2, 3, 0, 1, 3, 4, 0, 1, 2, 4], 7, 9, &[0, 9, 3]);
+    one(&[0, 1, 2, 3, 0, 1, 3, 4, 0, 1, 2, 4], 7, 9, &[]);
+}
+
+// Tables that hold no mesh, and counts beyond every room.
+fn unsound() {
+    let mut points = [0.0f64; 12];
+    let mut records = [0u32; 8];
+    let mut rows = [0u32; 8];
+    let c = Counts {
+        vertices: 4,
+        rows: 1,
+    };
+    call(&mut points, &mut records, &mut rows, c, &[0]);
+    let d = Counts {
+        vertices: 18446744073709551615,
+        rows: 18446744073709551615,
+    };
+    call(&mut points, &mut records, &mut rows, d, &[0]);
+}
+
+pub fn run() {
+    single();
+    worked();
+    refused();
+    unsound();
+}

@@ -1,0 +1,99 @@
+-- W1 to W10 (01, "Small meshes worked out") as one table: what is opened, the calls, and the whole tables after them.
+use mathlib.Core.Bool.{cond}
+use mathlib.Core.List.{List, [], _∷_, _++_, map}
+use mathlib.Core.Option.{Option, none, some}
+use Prim.Native.Nat.{ℕ, zero, suc, _*_, _/_}
+use lib.Dec.{eqb}
+use lib.ListN.{length, replicate}
+use Rattle.split.specs.declared.row.Row.{Row}
+use Rattle.split.specs.Split.{left, right}
+use Rattle.tables.specs.declared.record.Record.{Record}
+use Rattle.tables.specs.Layout.{noFloat}
+use Rattle.tables.specs.Mesh.{Mesh}
+use Rattle.forest.specs.Element.{Element, el}
+use Rattle.opening.specs.Opening.{initial, openedMesh}
+use Rattle.soundness.specs.Sound.{rowOf}
+use Rattle.soundness.specs.Forest.{elementOf}
+use Rattle.run.specs.Skeleton.{Skeleton, skeleton}
+use Rattle.run.specs.Compute.{refineCalls}
+
+-- elements are opened over as many vertices as there are colours; then come the calls, each given by its marks
+pub record Case : Type 0 where
+  pub elements : List ℕ
+  pub calls : List (List ℕ)
+  pub colours : List ℕ
+  pub midpoints : List Record
+  pub rows : List Row
+  -- the elements of the split rows, in row order
+  pub splits : List Element
+
+abbrev of : ℕ → ℕ → Record
+of a b = record { first = a; second = b }
+
+-- v0 v1 v2 v3, tag, parent, first child, depth
+abbrev row : ℕ → ℕ → ℕ → ℕ → ℕ → ℕ → ℕ → ℕ → Row
+row a b c d g p k n = record { v0 = a; v1 = b; v2 = c; v3 = d; tag = g; parent = p; child = k; depth = n }
+
+-- the one element of W1
+abbrev fromW1 : List (List ℕ) → List Record → List Row → List Element → Case
+fromW1 calls midpoints rows splits = record { elements = 0 ∷ 1 ∷ 2 ∷ 3 ∷ []; colours = 0 ∷ 1 ∷ 2 ∷ 3 ∷ []; calls = calls; midpoints = midpoints; rows = rows; splits = splits }
+
+-- the two elements of W5
+abbrev fromW5 : List (List ℕ) → List Record → List Row → List Element → Case
+fromW5 calls midpoints rows splits = record { elements = 0 ∷ 1 ∷ 2 ∷ 3 ∷ 1 ∷ 2 ∷ 3 ∷ 4 ∷ []; colours = 0 ∷ 1 ∷ 2 ∷ 3 ∷ 0 ∷ []; calls = calls; midpoints = midpoints; rows = rows; splits = splits }
+
+-- the three elements of W7
+abbrev fromW7 : List (List ℕ) → List Record → List Row → List Element → Case
+fromW7 calls midpoints rows splits = record { elements = 0 ∷ 1 ∷ 2 ∷ 3 ∷ 0 ∷ 1 ∷ 3 ∷ 4 ∷ 0 ∷ 1 ∷ 2 ∷ 4 ∷ []; colours = 0 ∷ 1 ∷ 2 ∷ 3 ∷ 4 ∷ []; calls = calls; midpoints = midpoints; rows = rows; splits = splits }
+
+-- mark 0 of W7: row 1 goes first
+abbrev likeW8 : List (List ℕ) → Case
+likeW8 calls = fromW7 calls (of 3 4 ∷ of 0 3 ∷ []) (row 0 1 2 3 3 0 5 0 ∷ row 4 0 1 3 3 1 3 0 ∷ row 4 0 1 2 3 2 0 0 ∷ row 4 0 1 5 2 1 0 1 ∷ row 0 1 3 5 2 1 7 1 ∷ row 0 1 2 6 2 0 0 1 ∷ row 1 2 3 6 2 0 0 1 ∷ row 0 1 6 5 1 4 0 2 ∷ row 1 3 6 5 1 4 0 2 ∷ []) (el 0 [] ∷ el 1 [] ∷ el 1 (right ∷ []) ∷ [])
+
+unfoldable pub worked : List Case
+worked =
+    -- W1: one element
+    fromW1 [] [] (row 3 0 1 2 3 0 0 0 ∷ []) [] ∷
+    -- W2: W1, mark 0
+    fromW1 ((0 ∷ []) ∷ []) (of 2 3 ∷ []) (row 3 0 1 2 3 0 1 0 ∷ row 3 0 1 4 2 0 0 1 ∷ row 0 1 2 4 2 0 0 1 ∷ []) (el 0 [] ∷ []) ∷
+    -- W3: then mark 1
+    fromW1 ((0 ∷ []) ∷ (1 ∷ []) ∷ []) (of 2 3 ∷ of 1 3 ∷ []) (row 3 0 1 2 3 0 1 0 ∷ row 3 0 1 4 2 0 3 1 ∷ row 0 1 2 4 2 0 0 1 ∷ row 3 0 5 4 1 1 0 2 ∷ row 0 1 5 4 1 1 0 2 ∷ []) (el 0 [] ∷ el 0 (left ∷ []) ∷ []) ∷
+    -- W4: then mark 3
+    fromW1 ((0 ∷ []) ∷ (1 ∷ []) ∷ (3 ∷ []) ∷ []) (of 2 3 ∷ of 1 3 ∷ of 0 3 ∷ []) (row 3 0 1 2 3 0 1 0 ∷ row 3 0 1 4 2 0 3 1 ∷ row 0 1 2 4 2 0 0 1 ∷ row 3 0 5 4 1 1 5 2 ∷ row 0 1 5 4 1 1 0 2 ∷ row 3 6 5 4 3 3 0 3 ∷ row 0 6 5 4 3 3 0 3 ∷ []) (el 0 [] ∷ el 0 (left ∷ []) ∷ el 0 (left ∷ left ∷ []) ∷ []) ∷
+    -- W5: two elements
+    fromW5 [] [] (row 3 0 1 2 3 0 0 0 ∷ row 3 4 1 2 3 1 0 0 ∷ []) [] ∷
+    -- W6: W5, mark 0
+    fromW5 ((0 ∷ []) ∷ []) (of 2 3 ∷ []) (row 3 0 1 2 3 0 2 0 ∷ row 3 4 1 2 3 1 4 0 ∷ row 3 0 1 5 2 0 0 1 ∷ row 0 1 2 5 2 0 0 1 ∷ row 3 4 1 5 2 1 0 1 ∷ row 4 1 2 5 2 1 0 1 ∷ []) (el 0 [] ∷ el 1 [] ∷ []) ∷
+    -- W7: three elements
+    fromW7 [] [] (row 0 1 2 3 3 0 0 0 ∷ row 4 0 1 3 3 1 0 0 ∷ row 4 0 1 2 3 2 0 0 ∷ []) [] ∷
+    -- W8: W7, mark 0
+    likeW8 ((0 ∷ []) ∷ []) ∷
+    -- W9: W7, marks 0 0
+    likeW8 ((0 ∷ 0 ∷ []) ∷ []) ∷
+    -- W10: W7, marks 2 0
+    fromW7 ((2 ∷ 0 ∷ []) ∷ []) (of 2 4 ∷ of 3 4 ∷ of 0 3 ∷ []) (row 0 1 2 3 3 0 7 0 ∷ row 4 0 1 3 3 1 5 0 ∷ row 4 0 1 2 3 2 3 0 ∷ row 4 0 1 5 2 2 0 1 ∷ row 0 1 2 5 2 2 0 1 ∷ row 4 0 1 6 2 1 0 1 ∷ row 0 1 3 6 2 1 9 1 ∷ row 0 1 2 7 2 0 0 1 ∷ row 1 2 3 7 2 0 0 1 ∷ row 0 1 7 6 1 6 0 2 ∷ row 1 3 7 6 1 6 0 2 ∷ []) (el 0 [] ∷ el 1 [] ∷ el 2 [] ∷ el 1 (right ∷ []) ∷ []) ∷
+    -- W10: W7, marks 0 2, with the same elements split
+    fromW7 ((0 ∷ 2 ∷ []) ∷ []) (of 3 4 ∷ of 0 3 ∷ of 2 4 ∷ []) (row 0 1 2 3 3 0 5 0 ∷ row 4 0 1 3 3 1 3 0 ∷ row 4 0 1 2 3 2 9 0 ∷ row 4 0 1 5 2 1 0 1 ∷ row 0 1 3 5 2 1 7 1 ∷ row 0 1 2 6 2 0 0 1 ∷ row 1 2 3 6 2 0 0 1 ∷ row 0 1 6 5 1 4 0 2 ∷ row 1 3 6 5 1 4 0 2 ∷ row 4 0 1 7 2 2 0 1 ∷ row 0 1 2 7 2 2 0 1 ∷ []) (el 0 [] ∷ el 1 [] ∷ el 2 [] ∷ el 1 (right ∷ []) ∷ []) ∷
+    []
+
+-- what comes out: records, rows, and the elements of the split rows
+pub record Outcome : Type 0 where
+  pub tables : Skeleton
+  pub splits : List Element
+
+-- the elements of the split rows below n, in row order
+unfoldable pub splitsBelow : Mesh → ℕ → ℕ → List Element
+splitsBelow m t zero = []
+splitsBelow m t (suc n) = splitsBelow m t n ++ cond (eqb (rowOf m n .child) 0) [] (elementOf m t n ∷ [])
+
+abbrev seen : ℕ → Option Skeleton → Option Outcome
+seen t none = none
+seen t (some S) = some (record { tables = S; splits = splitsBelow (record { points = []; records = S .records; rows = S .rows }) t (length (S .rows)) })
+
+-- by the definitions of opening and closure; coordinates do not matter
+unfoldable pub computed : Case → Option Outcome
+computed c = seen (length (c .elements) / 4) (refineCalls 4 (skeleton (openedMesh (replicate (3 * length (c .colours)) noFloat) (c .elements))) (c .calls))
+
+-- by the table
+unfoldable pub expected : Case → Option Outcome
+expected c = some (record { tables = record { records = map initial (c .colours) ++ c .midpoints; rows = c .rows }; splits = c .splits })
