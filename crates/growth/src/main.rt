@@ -1,12 +1,13 @@
 // A mesh refined to near capacity: a cube of six elements, all leaves thirteen times, each time in one call but the twelfth, which is in calls of a thousand marks; and the same cube refined towards a corner in fifty calls.
-// Prints the answers, the number of leaves, checksums of records and rows, and whether the tables are sound.
+// Prints the answers, the number of leaves, checksums of the listing, of records and rows, and whether the tables are sound.
 use closure::answer::Refined;
+use leaves::answer::Listed;
 use libc::STDOUT_FILENO;
 use opening::answer::Opened;
 use tables::layout::Counts;
 ghost use Prim.Native.Nat.{_≤_};
 
-mod leaves;
+mod picked;
 mod sum;
 
 fn number(n: usize) {
@@ -55,7 +56,7 @@ fn whole(
     corner: bool,
     marks: &mut [u32],
 ) -> Counts {
-    let n = leaves::list(rows, c.rows, corner, marks);
+    let n = picked::list(rows, c.rows, corner, marks);
     if n <= marks.len() {
         let r = closure::refine(points, records, rows, c, &marks[0..n]);
         return answer(r, c);
@@ -115,7 +116,7 @@ fn parts(
     c: Counts,
     marks: &mut [u32],
 ) -> Counts {
-    let n = leaves::list(rows, c.rows, false, marks);
+    let n = picked::list(rows, c.rows, false, marks);
     let mut d = c;
     let mut a = 0usize;
     while a < n {
@@ -181,10 +182,37 @@ fn open(points: &mut [f64], records: &mut [u32], rows: &mut [u32]) -> Opened {
     opening::open(&corners, &cube, points, records, rows)
 }
 
-fn report(points: &[f64], records: &[u32], rows: &[u32], c: Counts, marks: &mut [u32]) {
+// The leaves with their levels, listed; checksums of both lists.
+fn listed(
+    points: &[f64],
+    records: &[u32],
+    rows: &[u32],
+    c: Counts,
+    list: &mut [u32],
+    levels: &mut [u32],
+) {
     io::write_all(STDOUT_FILENO, b"leaves");
-    number(leaves::list(rows, c.rows, false, marks));
+    let r = leaves::leaves(points, records, rows, c, list, levels);
+    match r {
+        Listed::Done(n) => {
+            number(n);
+        }
+        Listed::Refused {
+            number: n,
+            place: _,
+        } => {
+            io::write_all(STDOUT_FILENO, b" refused");
+            number(n as usize);
+        }
+    }
+    number(sum::checksum(list) as usize);
+    number(sum::checksum(levels) as usize);
     end_line();
+}
+
+fn report(points: &[f64], records: &[u32], rows: &[u32], c: Counts, marks: &mut [u32]) {
+    let mut levels = [7u32; 50000];
+    listed(points, records, rows, c, marks, &mut levels);
     io::write_all(STDOUT_FILENO, b"sums");
     number(sum::checksum(records) as usize);
     number(sum::checksum(rows) as usize);

@@ -25,10 +25,29 @@ fn call(
     }
 }
 
+// The leaves and their levels, in lists for twelve.
+fn listed(points: &[f64], records: &[u32], rows: &[u32], c: Counts) {
+    let mut list = [7u32; 12];
+    let mut levels = [7u32; 12];
+    show::listed(leaves::leaves(points, records, rows, c, &mut list, &mut levels));
+    show::table(&list);
+    show::table(&levels);
+}
+
+// The same where the list of levels has room for two.
+fn short(points: &[f64], records: &[u32], rows: &[u32], c: Counts) {
+    let mut list = [7u32; 12];
+    let mut levels = [7u32; 2];
+    show::listed(leaves::leaves(points, records, rows, c, &mut list, &mut levels));
+    show::table(&list);
+    show::table(&levels);
+}
+
 // One call on what was opened, if anything.
 fn first(r: Opened, points: &mut [f64], records: &mut [u32], rows: &mut [u32], marks: &[u32]) {
     if let Opened::Done(c) = r {
-        call(points, records, rows, c, marks);
+        let d = call(points, records, rows, c, marks);
+        listed(points, records, rows, d);
         return;
     }
     show::end_line();
@@ -74,7 +93,8 @@ fn thrice(r: Opened, points: &mut [f64], records: &mut [u32], rows: &mut [u32]) 
     if let Opened::Done(c) = r {
         let d = call(points, records, rows, c, &[0]);
         let e = call(points, records, rows, d, &[1]);
-        call(points, records, rows, e, &[3]);
+        let f = call(points, records, rows, e, &[3]);
+        short(points, records, rows, f);
         return;
     }
     show::end_line();
@@ -127,6 +147,7 @@ fn unsound() {
         rows: 1,
     };
     call(&mut points, &mut records, &mut rows, c, &[0]);
+    listed(&points, &records, &rows, c);
     let d = Counts {
         vertices: 18446744073709551615,
         rows: 18446744073709551615,

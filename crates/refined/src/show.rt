@@ -1,5 +1,6 @@
 // One line of output for an answer or a table.
 use closure::answer::Refined;
+use leaves::answer::Listed;
 use libc::STDOUT_FILENO;
 
 pub fn number(n: usize) {
@@ -35,6 +36,21 @@ pub fn answer(r: Refined) {
         }
         Refined::Refused { number: n, place } => {
             io::write_all(STDOUT_FILENO, b"refused");
+            number(wide(n));
+            number(place);
+        }
+    }
+    end_line();
+}
+
+pub fn listed(r: Listed) {
+    io::write_all(STDOUT_FILENO, b"leaves");
+    match r {
+        Listed::Done(n) => {
+            number(n);
+        }
+        Listed::Refused { number: n, place } => {
+            io::write_all(STDOUT_FILENO, b" refused");
             number(wide(n));
             number(place);
         }

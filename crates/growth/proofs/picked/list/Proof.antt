@@ -2,8 +2,8 @@ use borrow.Author.Needs.{needs}
 use Prim.Native.Nat.{_-_, _≤_}
 use mathlib.Core.Path.{_≡_}
 use lib.ListN.{length}
-use Rattle.growth.proofs.leaves.list.Statement.{statement}
-use Rattle.growth.proofs.leaves.list.Tie as tie
+use Rattle.growth.proofs.picked.list.Statement.{statement}
+use Rattle.growth.proofs.picked.list.Tie as tie
 
 abbrev Inv-loop : tie.InvT-loop
 Inv-loop rows n corner marks₀ end j₀ k₀ marks j k = (end ≤ 100000) × (k ≤ end) × (j ≤ k) × (length marks ≡ length marks₀)

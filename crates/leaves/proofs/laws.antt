@@ -1,0 +1,9 @@
+pub mod Steps
+pub mod Walking
+pub mod Counting
+pub mod Filling
+pub mod Once
+pub mod Tree
+pub mod Leaves
+pub mod Sound
+pub mod Promise

@@ -1,0 +1,53 @@
+// One root's tree, by recursion (document 01, "What comes back": the first child's side before the second's).
+ghost use mathlib.Core.Path.{_≡_};
+ghost use lib.ListN.{set};
+ghost use Rattle.leaves.specs.Listing.{levelOf};
+ghost use Rattle.leaves.specs.Walk.{below, Low, Walkable, Stores, StoresOne};
+
+// A number of a table as an index.
+pub fn wide(x: u32) -> usize
+    ensures { λ r. ⌜ r ≡ x ⌝ }
+{
+    x as usize
+}
+
+// The level of a depth (document 01, "What comes back").
+fn level(depth: u32) -> u32
+    ensures { λ r. ⌜ r ≡ levelOf depth ⌝ }
+{
+    depth / 3
+}
+
+// Stores x at place i; nothing changes where the list has no place i.
+fn put(list: &mut [u32], i: usize, x: u32)
+    ensures { λ _. ⌜ now (list .exit) ≡ set (now (list .entry)) i x ⌝ }
+{
+    if i < list.len() {
+        list[i] = x;
+    }
+}
+
+// Lists the leaf k, and answers the next place.
+fn list_leaf(list: &mut [u32], levels: &mut [u32], at: usize, k: usize, depth: u32) -> usize
+    requires { ⌜ Low k at ⌝ }
+    ensures { λ e. ⌜ StoresOne at k depth (now (list .entry)) (now (levels .entry)) e (now (list .exit)) (now (levels .exit)) ⌝ }
+{
+    put(list, at, k as u32);
+    put(levels, at, level(depth));
+    at + 1
+}
+
+// Lists the leaves at and below row k from place `at` on, and answers the next place. 60 minus the row's depth falls.
+pub fn list_from(rows: &[u32], k: usize, list: &mut [u32], levels: &mut [u32], at: usize) -> usize
+    requires { ⌜ Walkable (now rows) k at ⌝ }
+    ensures { λ e. ⌜ Stores (now (rows .entry)) (below (now (rows .entry)) k) at (now (list .entry)) (now (levels .entry)) e (now (list .exit)) (now (levels .exit)) ⌝ }
+{
+    let held = tables::row::read(rows, k);
+    if held.child == 0 {
+        return list_leaf(list, levels, at, k, held.depth);
+    }
+    let first = wide(held.child);
+    let second = first + 1;
+    let next = list_from(rows, first, list, levels, at);
+    list_from(rows, second, list, levels, next)
+}
