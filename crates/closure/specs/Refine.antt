@@ -8,6 +8,7 @@ use lib.ListN.{length, getD}
 use Rattle.tables.specs.declared.layout.Counts.{Counts}
 use Rattle.tables.specs.Layout.{roomOf}
 use Rattle.tables.specs.Mesh.{Lent, Mesh, meshOf, laid}
+use Rattle.tables.specs.Report.{Report, refusal, done}
 use Rattle.opening.specs.declared.answer.Found.the-variants.{At, Nowhere}
 use Rattle.opening.specs.Search.{first}
 use Rattle.soundness.specs.Sound.{Sound}
@@ -24,9 +25,15 @@ absent rows marks j = leb rows (getD marks j 0)
 abbrev pub roomIn : Lent → Counts
 roomIn t = roomOf (length (t .points)) (length (t .records)) (length (t .rows))
 
+-- the numbers that each case of the answer stands for (01, "What comes back")
+abbrev pub reported : Refined → Report
+reported (Done c splits) = done c splits
+reported (Refused number place) = refusal number place
+
 -- refused by this number and place, with every lent number as at entry
 pub record Refuses (t : Lent) (number place : ℕ) (r : Refined) (t' : Lent) : Type 0 where
   pub answers : r ≡ Refused number place
+  pub reports : reported r ≡ refusal number place
   pub leaves : t' ≡ t
 
 -- accepted: the tables are those of the run over all marks, with the midpoints' points after the rule and zeros to the end; each split added two rows
@@ -34,6 +41,7 @@ pub record Accepts (t : Lent) (c : Counts) (marks : List ℕ) (r : Refined) (t' 
   pub after : Skeleton
   pub run : RunAll (skeleton (meshOf t c)) marks after
   pub answers : r ≡ Done (record { vertices = length (after .records); rows = length (after .rows) }) ((length (after .rows) - c .rows) / 2)
+  pub reports : reported r ≡ done (record { vertices = length (after .records); rows = length (after .rows) }) ((length (after .rows) - c .rows) / 2)
   pub leaves : t' ≡ laid (meshed (meshOf t c .points) after) (length (t .points)) (length (t .records)) (length (t .rows))
 
 -- number 2: what is needed outgrows the room

@@ -7,20 +7,28 @@ use lib.ListN.{length}
 use Rattle.split.specs.declared.row.Row.{Row}
 use Rattle.tables.specs.declared.layout.Counts.{Counts}
 use Rattle.tables.specs.Mesh.{Lent, meshOf, padded}
+use Rattle.tables.specs.Report.{Tally, unlisted, listed}
 use Rattle.soundness.specs.Sound.{Sound}
 use Rattle.leaves.specs.declared.answer.Listed.{Listed}
 use Rattle.leaves.specs.declared.answer.Listed.the-variants.{Done, Refused}
 use Rattle.leaves.specs.Listing.{levelIn, listing}
 
+-- the numbers that each case of the answer stands for (01, "What comes back")
+abbrev pub reported : Listed → Tally
+reported (Done leaves) = listed leaves
+reported (Refused number place) = unlisted number place
+
 -- refused by this number, with both lists as at entry
 pub record Refuses (list levels : List ℕ) (number : ℕ) (r : Listed) (list' levels' : List ℕ) : Type 0 where
   pub answers : r ≡ Refused number 0
+  pub reports : reported r ≡ unlisted number 0
   pub list-same : list' ≡ list
   pub levels-same : levels' ≡ levels
 
 -- accepted: the rows in the one list and the levels in the other, zeros after them; the answer is the number of leaves
 pub record Accepts (W : List Row) (list levels : List ℕ) (r : Listed) (list' levels' : List ℕ) : Type 0 where
   pub answers : r ≡ Done (length (listing W))
+  pub reports : reported r ≡ listed (length (listing W))
   pub list-is : list' ≡ padded (length list) 0 (listing W)
   pub levels-is : levels' ≡ padded (length levels) 0 (map (levelIn W) (listing W))
 

@@ -2,11 +2,17 @@
 use mathlib.Core.Path.{_≡_, sym, ap, _∙_}
 use denote.Ref.{now}
 use Rattle.tables.specs.Mesh.{Lent}
+use Rattle.opening.specs.Opening.{reported}
+use Rattle.opening.proofs.laws.Reports.{report-tells}
 use Rattle.opening.proofs.open.Reads as opening
 use Rattle.opening.proofs.agree.agrees.Reads as agreeing
 
 pub open-determined : (κs : _) (a : _) (r r' : _) (s s' : _) → opening.Learnt κs a r s → opening.Learnt κs a r' s' → r ≡ r'
 open-determined κs a r r' s s' p q = p .answers ∙ sym (q .answers)
+
+-- nothing of an answer is lost in its report, whichever inputs the two calls had
+pub open-reported : (κs κs' : _) (a a' : _) (r r' : _) (s s' : _) → opening.Learnt κs a r s → opening.Learnt κs' a' r' s' → reported r ≡ reported r' → r ≡ r'
+open-reported κs κs' a a' r r' s s' p q e = report-tells r r' p q e
 
 -- the lent tables are the third to the fifth parameter
 pub open-points-determined : (κs : _) (a : _) (r r' : _) (s s' : _) → opening.Learnt κs a r s → opening.Learnt κs a r' s' → now (s .1 .1 .0) ≡ now (s' .1 .1 .0)

@@ -22,3 +22,4 @@ pub mod Sorting
 pub mod Sorted
 pub mod Opened
 pub mod Agree
+pub mod Reports

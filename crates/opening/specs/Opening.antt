@@ -9,6 +9,7 @@ use Rattle.tables.specs.declared.layout.Counts.{Counts}
 use Rattle.tables.specs.declared.record.Record.{Record}
 use Rattle.tables.specs.Layout.{pointAt}
 use Rattle.tables.specs.Mesh.{Lent, Mesh, upTo, laid}
+use Rattle.tables.specs.Report.{Report, refusal, done}
 use Rattle.opening.specs.declared.answer.Found.{Found}
 use Rattle.opening.specs.declared.answer.Found.the-variants.{At, Nowhere}
 use Rattle.opening.specs.declared.answer.Verdict.{Verdict}
@@ -67,6 +68,16 @@ abbrev pub answer : Verdict → ℕ → ℕ → Opened
 answer (verdict.Refused n p) vertices rows = opened.Refused n p
 answer verdict.Passed vertices rows = opened.Done (record { vertices = vertices; rows = rows })
 
+-- the numbers that each case of the answer stands for; opening splits nothing (01, "What comes back")
+abbrev pub reported : Opened → Report
+reported (opened.Done c) = done c 0
+reported (opened.Refused n p) = refusal n p
+
+-- the numbers that the verdict asks for
+abbrev pub report : Verdict → ℕ → ℕ → Report
+report (verdict.Refused n p) vertices rows = refusal n p
+report verdict.Passed vertices rows = done (record { vertices = vertices; rows = rows }) 0
+
 -- the tables: as at entry where refused, else the mesh and zeros after it, to the end of the lent tables
 abbrev pub tables : Verdict → List Float → List ℕ → Lent → Lent
 tables (verdict.Refused n p) F E t = t
@@ -81,4 +92,5 @@ lent points records rows = record { points = points; records = records; rows = r
 -- The promise of opening F and E into the lent tables t: the answer r, and the tables t' afterwards.
 pub record Opens (F : List Float) (E : List ℕ) (t : Lent) (r : Opened) (t' : Lent) : Type 0 where
   pub answers : r ≡ answer (verdictOn F E t) (length F / 3) (length E / 4)
+  pub reports : reported r ≡ report (verdictOn F E t) (length F / 3) (length E / 4)
   pub leaves : t' ≡ tables (verdictOn F E t) F E t

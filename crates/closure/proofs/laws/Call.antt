@@ -39,7 +39,7 @@ use Rattle.closure.specs.Refining.{Tables}
 use Rattle.closure.specs.Marks.{onMarks}
 use Rattle.closure.specs.Marking.{AllDue, Ended, Failed, Marks}
 use Rattle.closure.specs.Undo.{restored, Emptied, Undoable, Undone}
-use Rattle.closure.specs.Refine.{absent, roomIn, Refuses, Accepts, OnRoom, outgrown, fits, OnDepth, deep, shallow, OnMarks, missing, present, Refines, unsound, sound}
+use Rattle.closure.specs.Refine.{absent, roomIn, reported, Accepts, OnRoom, outgrown, fits, OnDepth, deep, shallow, OnMarks, missing, present, Refines, unsound, sound}
 use Rattle.closure.specs.Call.{Undoing, Undoes, Finishing, Finishes, Closable, Closes, Callable, Calls}
 use Rattle.closure.proofs.laws.Tables.{rows-same, records-same}
 use Rattle.closure.proofs.laws.Blank.{rows-blank, records-blank, points-blank, rows-padded, records-padded, points-padded}
@@ -48,6 +48,7 @@ use Rattle.closure.proofs.laws.Entry.{Roomy, roomy, entry-mesh, entry-r
 use Rattle.closure.proofs.laws.Marking.{within-room}
 use Rattle.closure.proofs.laws.Judged.{told, Told, deeps, refused-never, mark-fine, marks-markable, marks-shallow, marks-deep}
 use Rattle.closure.proofs.laws.Judged as judged
+use Rattle.closure.proofs.laws.Promise.{refuses}
 
 -- ---- what a passed verdict tells
 
@@ -148,7 +149,7 @@ module _ {p : List Float} {r w s : List ℕ} {c : Counts} {marks : List ℕ} (x 
       close-full = record {
         room = λ y. outgrown
             (rw (entry-mesh y) at (no-room (meshOf (lent p r w) c .points) (y .initials) (y .roots) (rw eo at (f .stuck)) (entry-ready y) entry-within (fit .few-vertices) (marks-markable y marks (ok .there) (ok .shallow))))
-            (record { answers = refl; leaves = tables-back });
+            (refuses refl tables-back);
       }
 
   -- ---- all marks done
@@ -193,12 +194,16 @@ module _ {p : List Float} {r w s : List ℕ} {c : Counts} {marks : List ℕ} (x 
       rows-laid : w' ≡ padded (length w) 0 (flat rowCells (rowsOf w' (d .rows)))
       rows-laid = rw lw at (rows-padded w' (d .rows) (rw lw (x .sound .fitting .rows)) (rw lw (omega (arith, inside .1, fit .rows-fit))) (ended .tables .state .blank))
 
+      answered : a ≡ Done (record { vertices = length (recordsOf r' (d .vertices)); rows = length (rowsOf w' (d .rows)) }) ((length (rowsOf w' (d .rows)) - c .rows) / 2)
+      answered = g .answers ∙ (λ j. Done (record { vertices = sym (length-up-to (recordAt r') (d .vertices)) j; rows = sym (length-up-to (rowAt w') (d .rows)) j }) ((sym (length-up-to (rowAt w') (d .rows)) j - c .rows) / 2))
+
       accepted : Accepts (lent p r w) c marks a (lent p' r' w')
       unfolding meshOf laid
       accepted = record {
         after = seen r' w' d;
         run = ended .run;
-        answers = g .answers ∙ (λ j. Done (record { vertices = sym (length-up-to (recordAt r') (d .vertices)) j; rows = sym (length-up-to (rowAt w') (d .rows)) j }) ((sym (length-up-to (rowAt w') (d .rows)) j - c .rows) / 2));
+        answers = answered;
+        reports = ap reported answered;
         leaves = λ j. record { points = points-laid j; records = records-laid j; rows = rows-laid j };
       }
 
@@ -216,11 +221,11 @@ pub ruleset closing = (close-index, close-due, close-undo, close-full, close-fin
 
 module _ {p : List Float} {r w s : List ℕ} {c : Counts} (x : Callable p r w s c) {marks : List ℕ} {v : Verdict} (e : v ≡ onMarks w (c .rows) marks) where
   refused : {n q : ℕ} → v ≡ verdict.Refused n q → Told w (c .rows) marks v → Calls (lent p r w) c marks (Refused n q) (lent p r w)
-  refused {n} {q} f (judged.missing k a b) = record { judged = λ y. missing k a (record { answers = sym (same f b); leaves = refl }) }
+  refused {n} {q} f (judged.missing k a b) = record { judged = λ y. missing k a (refuses (sym (same f b)) refl) }
     where
       same : v ≡ verdict.Refused n q → v ≡ verdict.Refused 10 k → Refused 10 k ≡ Refused n q
       same f b = let z : verdict.Refused 10 k ≡ verdict.Refused n q = sym b ∙ f in cc
-  refused {n} {q} f (judged.deep a d b) = record { judged = λ y. present a (deep (marks-deep y marks a d) (record { answers = sym (same f b); leaves = refl })) }
+  refused {n} {q} f (judged.deep a d b) = record { judged = λ y. present a (deep (marks-deep y marks a d) (refuses (sym (same f b)) refl)) }
     where
       same : v ≡ verdict.Refused n q → v ≡ verdict.Refused 11 0 → Refused 11 0 ≡ Refused n q
       same f b = let z : verdict.Refused 11 0 ≡ verdict.Refused n q = sym b ∙ f in cc
@@ -242,7 +247,7 @@ pub ruleset calling = (call-refused, call-closable, call-closed)
 
 module _ {t : Lent} {c : Counts} {marks : List ℕ} {b : Bool} (d : Decides (Sound t c) b) where
   pub refine-unsound : not b ≡ true → Refines t c marks (Refused 9 0) t
-  refine-unsound e = unsound (d .no (not-true b e)) (record { answers = refl; leaves = refl })
+  refine-unsound e = unsound (d .no (not-true b e)) (refuses refl refl)
 
   pub refine-sound : not b ≡ false → {a : Refined} {t' : Lent} → Calls t c marks a t' → Refines t c marks a t'
   refine-sound e g = let s = d .yes (not-false b e) in sound s (g .judged s)

@@ -1,12 +1,13 @@
 -- The promise of refining leaves one answer and one set of tables.
 use mathlib.Core.Path.{_≡_, refl, sym, ap, _∙_}
 use mathlib.Core.List.{List}
-use Prim.Native.Nat.{ℕ, _-_, _/_}
+use Prim.Native.Nat.{ℕ, _-_, _/_, _≤_}
 use native.Mathlib.Omega.{arith}
 use lib.ListN.{length}
 use Rattle.split.proofs.laws.Places.{less, equal, more, against}
 use Rattle.tables.specs.declared.layout.Counts.{Counts}
 use Rattle.tables.specs.Mesh.{Lent, Mesh, meshOf, laid}
+use Rattle.tables.specs.Report.{Report}
 use Rattle.opening.specs.declared.answer.Found.{Found}
 use Rattle.opening.specs.declared.answer.Found.the-variants.{At, Nowhere}
 use Rattle.soundness.specs.Sound.{Parted, Sound}
@@ -14,7 +15,7 @@ use Rattle.run.specs.Skeleton.{Skeleton, meshed}
 use Rattle.run.proofs.laws.Unique.{run-all-unique}
 use Rattle.closure.specs.declared.answer.Refined.{Refined}
 use Rattle.closure.specs.declared.answer.Refined.the-variants.{Done, Refused}
-use Rattle.closure.specs.Refine.{Refuses, Accepts, OnRoom, outgrown, fits, OnDepth, deep, shallow, OnMarks, missing, present, Refines, unsound, sound}
+use Rattle.closure.specs.Refine.{reported, Refuses, Accepts, OnRoom, outgrown, fits, OnDepth, deep, shallow, OnMarks, missing, present, Refines, unsound, sound}
 
 -- ---- how many vertices are initial and how many rows are roots can be told from the mesh
 
@@ -43,6 +44,10 @@ done-counts e = cc
 
 pub done-splits : {d d₂ : Counts} {n n₂ : ℕ} → Done d n ≡ Done d₂ n₂ → n ≡ n₂
 done-splits e = cc
+
+-- the report of a refusal follows from its answer
+pub refuses : {t : Lent} {n p : ℕ} {r : Refined} {t' : Lent} → r ≡ Refused n p → t' ≡ t → Refuses t n p r t'
+refuses e l = record { answers = e; reports = ap reported e; leaves = l }
 
 -- ---- two outcomes of one call
 
@@ -105,3 +110,24 @@ refused-marks (present e (shallow n (fits o x))) = done-never (sym (x .answers))
 pub refused-same : {t : Lent} {c : Counts} {marks : List ℕ} {k p : ℕ} {t' : Lent} → Refines t c marks (Refused k p) t' → t' ≡ t
 refused-same (unsound n x) = x .leaves
 refused-same (sound s x) = refused-marks x
+
+-- ---- two answers with the same report are equal: no refusal has number 0, so a report tells which case it is of
+
+same-number : {n m p q : ℕ} → Refused n p ≡ Refused m q → n ≡ m
+same-number e = cc
+
+marks-number : {t : Lent} {c : Counts} {i roots : ℕ} {marks : List ℕ} {k p : ℕ} {t' : Lent} → OnMarks t c i roots marks (Refused k p) t' → 1 ≤ k
+marks-number (missing p e x) = omega (arith, same-number (x .answers))
+marks-number (present e (deep d x)) = omega (arith, same-number (x .answers))
+marks-number (present e (shallow n (outgrown o x))) = omega (arith, same-number (x .answers))
+marks-number (present e (shallow n (fits o x))) = done-never (sym (x .answers))
+
+refused-number : {t : Lent} {c : Counts} {marks : List ℕ} {k p : ℕ} {t' : Lent} → Refines t c marks (Refused k p) t' → 1 ≤ k
+refused-number (unsound n x) = omega (arith, same-number (x .answers))
+refused-number (sound s x) = marks-number x
+
+pub report-tells : {t u : Lent} {c d : Counts} {marks others : List ℕ} (r r₂ : Refined) {t' u' : Lent} → Refines t c marks r t' → Refines u d others r₂ u' → reported r ≡ reported r₂ → r ≡ r₂
+report-tells (Done a n) (Done b m) x y e = λ i. Done (record { vertices = e i .vertices; rows = e i .rows }) (e i .splits)
+report-tells (Done a n) (Refused k p) x y e = let z = ap (λ (o : Report). o .number) e in absurd (omega (arith, z, refused-number y))
+report-tells (Refused k p) (Done a n) x y e = let z = ap (λ (o : Report). o .number) e in absurd (omega (arith, z, refused-number x))
+report-tells (Refused k p) (Refused l q) x y e = λ i. Refused (e i .number) (e i .place)

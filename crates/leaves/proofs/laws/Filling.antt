@@ -7,6 +7,7 @@ use native.Mathlib.Omega.{arith}
 use lib.ListN.{length, set, replicate, length-append, length-replicate, length-map}
 use lib.Seq.{sets, sets-eq, set-out}
 use Rattle.tables.specs.Mesh.{padded}
+use Rattle.tables.specs.Report.{listed}
 use Rattle.tables.proofs.laws.Parts.{drop-replicate}
 use Rattle.opening.specs.Search.{count}
 use Rattle.opening.proofs.laws.Counting.{count-below}
@@ -69,11 +70,13 @@ sets-cleared n a h =
 
 module _ {w : List ℕ} {n : ℕ} {l v : List ℕ} (x : Roomy w n l v) {l₁ v₁ : List ℕ} (el : l₁ ≡ replicate (length l) 0) (ev : v₁ ≡ replicate (length v) 0) where
   pub filled : {e : ℕ} {l' v' : List ℕ} → Stores w (treesBelow (rowsIn w) n) 0 l₁ v₁ e l' v' → Accepts (rowsOf w n) l v (Done e) l' v'
-  filled o =
+  filled {e} o =
       let same = listing-rows w n (x .listable .blank) in
       let a : List ℕ = listing (rowsOf w n) in
+      let size : e ≡ length a = rw (← same) at (o .next) ∙ omega arith in
       record {
-        answers = ap Done (rw (← same) at (o .next) ∙ omega arith);
+        answers = ap Done size;
+        reports = ap listed size;
         list-is = rw (el, ← same) at (o .list-is) ∙ sets-cleared (length l) a (x .list-fits);
         levels-is = rw (ev, ← same, ← levels-rows w n (x .listable .blank) a) at (o .levels-is) ∙ sets-cleared (length v) (map (levelIn (rowsOf w n)) a) (rw (length-map a (levelIn (rowsOf w n))) (x .levels-fit));
       }
@@ -85,7 +88,7 @@ module _ {w : List ℕ} {n : ℕ} (x : Listable w n) {size : ℕ} (e : size ≡ 
   is-size = x .size ∙ sym e
 
   refuses : Refuses l v 2 (Refused 2 0) l v
-  refuses = record { answers = refl; list-same = refl; levels-same = refl }
+  refuses = record { answers = refl; reports = refl; list-same = refl; levels-same = refl }
 
   pub list-short : length l < size → OnRoom (rowsOf w n) l v (Refused 2 0) l v
   list-short h = short (inl (omega (arith, is-size, h))) refuses

@@ -41,8 +41,8 @@ opened-laid {F} {E} {scratch} {N} {lp} {lv} {lr} p n s = λ i. record { points =
 
 pub opens-refused : {F points points' : List Float} {E records records' rows rows' : List ℕ} {n p : ℕ} → verdictOn F E (lent points records rows) ≡ verdict.Refused n p
     → points' ≡ points → records' ≡ records → rows' ≡ rows → Opens F E (lent points records rows) (opened.Refused n p) (lent points' records' rows')
-opens-refused e a b c = record { answers = rw e; leaves = rw e (λ i. lent (a i) (b i) (c i)) }
+opens-refused e a b c = record { answers = rw e; reports = rw e; leaves = rw e (λ i. lent (a i) (b i) (c i)) }
 
 pub opens-passed : {F : List Float} {E : List ℕ} {t t' : Lent} → verdictOn F E t ≡ verdict.Passed
     → t' ≡ laid (openedMesh F E) (length (t .points)) (length (t .records)) (length (t .rows)) → Opens F E t (opened.Done (record { vertices = length F / 3; rows = length E / 4 })) t'
-opens-passed e l = record { answers = rw e; leaves = rw e l }
+opens-passed e l = record { answers = rw e; reports = rw e; leaves = rw e l }
