@@ -1,0 +1,4 @@
+pub mod laws
+pub mod Inverse
+pub mod Prefix
+pub mod Determined

@@ -1,0 +1,9 @@
+pub mod Reading
+pub mod Fields
+pub mod Lines
+pub mod Input
+pub mod Loop
+pub mod Putting
+pub mod Printing
+pub mod Mesh
+pub mod Answer

@@ -1,0 +1,10 @@
+pub mod Digits
+pub mod Field
+pub mod Line
+pub mod Input
+pub mod Output
+pub mod Reading
+pub mod Putting
+pub mod Printing
+pub mod Program
+pub mod Working
