@@ -7,3 +7,4 @@ pub mod Putting
 pub mod Printing
 pub mod Mesh
 pub mod Answer
+pub mod Written

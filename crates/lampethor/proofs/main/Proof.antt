@@ -1,5 +1,5 @@
 use borrow.Author.Needs.{needs}
-use Rattle.lampethor.proofs.laws.Written.{written}
+use Rattle.text.proofs.laws.Written.{written}
 use Rattle.lampethor.proofs.main.Statement.{statement}
 use Rattle.lampethor.proofs.main.Tie as tie
 
