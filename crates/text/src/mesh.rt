@@ -1,24 +1,18 @@
 // The text of a refined mesh.
 use crate::SIZE;
+use crate::print::long;
 use crate::print::print_c;
 use crate::print::print_leaves;
 use crate::print::print_midpoints;
 use closure::answer::Refined;
 use leaves::answer::Listed;
 use tables::layout::Counts;
-ghost use mathlib.Core.Path.{_≡_};
 ghost use Rattle.tables.specs.Report.{done, refusal};
 ghost use Rattle.soundness.specs.Check.{lent};
 ghost use Rattle.closure.specs.declared.answer.Refined.the-variants.{Done};
 ghost use Rattle.text.specs.Putting.{Puts};
 ghost use Rattle.text.specs.Program.{headline, leafLines, refinedText};
 ghost use Rattle.text.specs.Working.{Held, Listable, Printable, Finishes};
-
-fn long(x: usize) -> u64
-    ensures { λ r. ⌜ r ≡ x ⌝ }
-{
-    x as u64
-}
 
 // The C line alone.
 pub fn refuse(out: &mut [u8; SIZE], number: u32, place: usize) -> usize

@@ -1,5 +1,6 @@
 // The printed lines: C, P and L.
 use crate::SIZE;
+use crate::input::LINE_FEED;
 use crate::put::put;
 use crate::put::put_four;
 use crate::put::put_number;
@@ -12,15 +13,13 @@ ghost use Rattle.text.specs.Output.{cLine, pLine, lLine, leafLine, pLine
 ghost use Rattle.text.specs.Putting.{Room, Puts};
 ghost use Rattle.text.specs.Printing.{PrintsMidpoints, PrintsLeaf, PrintsLeaves};
 
-const LINE_FEED: u8 = 10;
-
 fn wide(x: u32) -> u64
     ensures { λ r. ⌜ r ≡ x ⌝ }
 {
     x as u64
 }
 
-fn long(x: usize) -> u64
+pub fn long(x: usize) -> u64
     ensures { λ r. ⌜ r ≡ x ⌝ }
 {
     x as u64

@@ -1,0 +1,51 @@
+//! Meshes and marks to time, grown by the model. Tables have just the room that a mesh needs in the
+//! end: what a side does with the whole of its own memory then shows in the small ones.
+
+use crate::mesh::{Counts, Input, Mesh};
+use crate::sides::{Model, Side};
+
+const MOST: Counts = (20_000, 100_000);
+
+/// A mesh, marks, and the mesh that they make of it.
+pub struct Case {
+    pub before: Mesh,
+    pub marks: Vec<u32>,
+    pub after: Mesh,
+}
+
+/// Opens, refines all leaves as often as told, and then marks one leaf in `share` at random.
+pub fn case(input: &Input, rounds: usize, share: u64) -> Case {
+    let mut before = Mesh::lent(MOST);
+    Model::open(input, &mut before).expect("opening refused");
+    for _ in 0..rounds {
+        let leaves = before.leaves();
+        Model::refine(&mut before, &leaves).expect("refining refused");
+    }
+    let marks = some_of(before.leaves(), share);
+    let mut after = before.clone();
+    Model::refine(&mut after, &marks).expect("refining refused");
+    let room = after.counts;
+    Case {
+        before: before.with_room(room),
+        marks,
+        after: after.with_room(room),
+    }
+}
+
+/// One number in `share`, chosen by the generator splitmix64 and the same in every run.
+fn some_of(mut list: Vec<u32>, share: u64) -> Vec<u32> {
+    let mut state = 1u64;
+    list.retain(|_| {
+        state = state.wrapping_add(0x9e37_79b9_7f4a_7c15);
+        let z = (state ^ state >> 30).wrapping_mul(0xbf58_476d_1ce4_e5b9);
+        let z = (z ^ z >> 27).wrapping_mul(0x94d0_49bb_1331_11eb);
+        (z ^ z >> 31) % share == 0
+    });
+    list
+}
+
+/// The list cut into a hundred, of which some are empty where there are fewer marks.
+pub fn hundred(marks: &[u32]) -> Vec<&[u32]> {
+    let at = |k: usize| k * marks.len() / 100;
+    (0..100).map(|k| &marks[at(k)..at(k + 1)]).collect()
+}
