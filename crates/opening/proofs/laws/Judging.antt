@@ -107,6 +107,12 @@ judged-coloured {vertices} {E} {scratch} {f} a b c e =
 sized : (n : ℕ) (l : List ℕ) → l ≡ replicate n 0 → length l ≡ n
 sized n l e = rw (e, length-replicate)
 
+pub zeros-same : (n : ℕ) → replicate {A = ℕ} n 0 ≡ replicate n 0
+zeros-same n = refl
+
+pub zeros-count : (n : ℕ) → n ≡ length (replicate {A = ℕ} n 0)
+zeros-count n = sym (length-replicate n 0)
+
 pub blank-size : {scratch : List ℕ} → Blank scratch → length scratch ≡ 460000
 blank-size {scratch} b = sized 460000 scratch b
 

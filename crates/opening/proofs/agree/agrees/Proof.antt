@@ -1,5 +1,7 @@
 -- `opening::agree::agrees` meets its contract: test 1 refuses lengths that are too large, and where the tests pass, the scratch table has the colours of Algorithm 2. Assumes nothing.
-use mathlib.Core.Path.{refl}
+use mathlib.Core.Path.{sym}
+use Rattle.opening.specs.Scratch.{scratchLength}
+use Rattle.opening.proofs.laws.Judging.{zeros-same, zeros-count}
 use borrow.Author.Needs.{needs}
 use borrow.Author.Tests.{not-true, not-false}
 use Rattle.opening.proofs.laws.Agree.{agreed-long, agreed-many, agreed-refused, agreed-records, agreed-rows}
@@ -22,22 +24,22 @@ mul-judge-3 : tie.Need-mul-judge-3
 mul-judge-3 c = search needs
 
 slice-aggregate-judge : tie.Need-slice-aggregate-judge
-slice-aggregate-judge c = search needs
+slice-aggregate-judge c = zeros-count scratchLength
 
 judge-requires : tie.Need-judge-requires
-judge-requires c κs = refl
+judge-requires c κs = zeros-same scratchLength
 
 enum-told : tie.Need-enum-told
-enum-told c = search needs
+enum-told c = c .match .keys1
 
 returns-3 : tie.Need-returns-3
 returns-3 c = agreed-refused _ _ _ _ (c .before .before .before .judge .ensures) (c .enum-told .given .1)
 
 enum-told-2 : tie.Need-enum-told-2
-enum-told-2 c = search needs
+enum-told-2 c = c .match .keys2
 
 slice-aggregate-records-agree : tie.Need-slice-aggregate-records-agree
-slice-aggregate-records-agree c = search needs
+slice-aggregate-records-agree c = sym (c .before .before .before .before .judge .ensures .size)
 
 records-agree-requires : tie.Need-records-agree-requires
 records-agree-requires c κs = (c .before .before .before .before .judge .ensures .size, c .before .before .before .before .judge .ensures .storable (c .before .enum-told2 .given .1) .plain .most)
@@ -46,7 +48,7 @@ returns-4 : tie.Need-returns-4
 returns-4 c = agreed-records _ _ _ _ (c .before .before .before .before .before .before .judge .ensures) (c .before .before .before .enum-told2 .given .1) (c .before .records-agree .ensures) (not-true (c .before .records-agree .result) (c .if3 .taken))
 
 slice-aggregate-largest-colour : tie.Need-slice-aggregate-largest-colour
-slice-aggregate-largest-colour c = search needs
+slice-aggregate-largest-colour c = sym (c .before .before .before .before .before .before .before .judge .ensures .size)
 
 largest-colour-requires : tie.Need-largest-colour-requires
 largest-colour-requires c κs =
@@ -54,7 +56,7 @@ largest-colour-requires c κs =
     (s .size, (s .plain .most, s .painted))
 
 slice-aggregate-rows-agree : tie.Need-slice-aggregate-rows-agree
-slice-aggregate-rows-agree c = search needs
+slice-aggregate-rows-agree c = sym (c .before .before .before .before .before .before .before .before .before .judge .ensures .size)
 
 rows-agree-requires : tie.Need-rows-agree-requires
 rows-agree-requires c κs =

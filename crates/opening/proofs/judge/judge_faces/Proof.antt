@@ -1,3 +1,4 @@
+use mathlib.Core.Path.{sym, _∙_}
 use Rattle.opening.proofs.laws.Verdicts.{same-refused, third-refused}
 use Rattle.opening.proofs.laws.Judging.{judged-refused, judged-coloured}
 use borrow.Author.Needs.{needs}
@@ -14,7 +15,7 @@ same-length : tie.Need-same-length
 same-length c = search needs
 
 returns : tie.Need-returns
-returns c = judged-refused (same-refused _ _ _ (cc)) (cc)
+returns c = judged-refused (same-refused _ _ _ (sym (c .before .before .before .first-same .ensures) ∙ c .before .same .given .1)) (c .before .before .before .before .before .before .before .pre .1 .0 .size)
 
 enum-told : tie.Need-enum-told
 enum-told c = search needs
@@ -29,7 +30,7 @@ same-length-2 : tie.Need-same-length-2
 same-length-2 c = search needs
 
 returns-2 : tie.Need-returns-2
-returns-2 c = judged-refused (third-refused _ _ _ (cc) (cc)) (cc)
+returns-2 c = judged-refused (third-refused _ _ _ (sym (c .before .before .before .before .before .before .before .first-same .ensures) ∙ c .before .before .before .before .before .enum-told .given .1) (sym (c .before .before .before .first-third .ensures) ∙ c .before .third .given .1)) (c .before .before .before .before .before .before .before .before .before .before .before .pre .1 .0 .size)
 
 enum-told-2 : tie.Need-enum-told-2
 enum-told-2 c = search needs
@@ -44,7 +45,7 @@ same-length-3 : tie.Need-same-length-3
 same-length-3 c = search needs
 
 returns-3 : tie.Need-returns-3
-returns-3 c = judged-coloured (cc) (cc) (c .before .before .before .colour-all .ensures) (c .verdict-at .ensures)
+returns-3 c = judged-coloured (sym (c .before .before .before .before .before .before .before .before .before .before .before .first-same .ensures) ∙ c .before .before .before .before .before .before .before .before .before .enum-told .given .1) (sym (c .before .before .before .before .before .before .before .first-third .ensures) ∙ c .before .before .before .before .before .enum-told2 .given .1) (c .before .before .before .colour-all .ensures) (c .verdict-at .ensures)
 
 pub judge-faces-spec : {M : Type 1} → statement M
 judge-faces-spec =
