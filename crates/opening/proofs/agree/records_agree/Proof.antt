@@ -1,4 +1,5 @@
 -- `opening::agree::records_agree` meets its contract. The invariant: the records before `v` agree. Assumes nothing.
+use mathlib.Core.Path.{_∙_}
 use Prim.Native.Nat.{_-_}
 use borrow.Author.Needs.{needs}
 use borrow.Author.Tests.{not-true, not-false}
@@ -30,7 +31,7 @@ same-record-requires c κs = search needs
 
 returns : tie.Need-returns Inv-loop μ-loop
 unfolding recordsAgree
-returns c = agreeing-stop (c .before .before .before .before .before .loop .inv) {r = c .before .same-record .result} (search needs) (cc) (not-true _ (c .if1 .taken))
+returns c = agreeing-stop (c .before .before .before .before .before .loop .inv) {r = c .before .same-record .result} (search needs) (c .before .same-record .ensures ∙ (λ i. sameRecord (c .before .before .before .read .ensures i) (c .before .before .initial-record .ensures i))) (not-true _ (c .if1 .taken))
 
 add-v : tie.Need-add-v Inv-loop μ-loop
 add-v c = search needs
@@ -39,7 +40,7 @@ loop-less : tie.Need-loop-less Inv-loop μ-loop
 loop-less c = search needs
 
 loop-again : tie.Need-loop-again Inv-loop μ-loop
-loop-again c = agreeing-on (c .before .before .before .before .before .loop .inv) {r = c .before .same-record .result} (search needs) (cc) (not-false _ (c .if1 .left))
+loop-again c = agreeing-on (c .before .before .before .before .before .loop .inv) {r = c .before .same-record .result} (search needs) (c .before .same-record .ensures ∙ (λ i. sameRecord (c .before .before .before .read .ensures i) (c .before .before .initial-record .ensures i))) (not-false _ (c .if1 .left))
 
 returns-2 : tie.Need-returns-2 Inv-loop μ-loop
 unfolding recordsAgree

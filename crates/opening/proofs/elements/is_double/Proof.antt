@@ -1,4 +1,6 @@
+use mathlib.Core.Path.{_∙_}
 use borrow.Author.Needs.{needs}
+use Rattle.opening.specs.Causes.{twice}
 use Rattle.opening.proofs.elements.is_double.Statement.{statement}
 use Rattle.opening.proofs.elements.is_double.Tie as tie
 
@@ -18,7 +20,7 @@ repeats-requires : tie.Need-repeats-requires
 repeats-requires c κs = search needs
 
 returns : tie.Need-returns
-returns c = cc
+returns c = c .repeats .ensures ∙ (λ i. twice (c .before .before .before .before .vertex-at .ensures i) (c .before .before .before .vertex-at2 .ensures i) (c .before .before .vertex-at3 .ensures i) (c .before .vertex-at4 .ensures i))
 
 pub is-double-spec : {M : Type 1} → statement M
 is-double-spec =
