@@ -1,3 +1,6 @@
+use mathlib.Core.Path.{refl}
+use Rattle.closure.specs.State.{rowPushed}
+use Rattle.closure.proofs.laws.Tables.{put-on}
 use borrow.Author.Needs.{needs}
 use Rattle.closure.proofs.build.index_standing.Statement.{statement}
 use Rattle.closure.proofs.build.index_standing.Tie as tie
@@ -12,7 +15,7 @@ same-length : tie.Need-same-length
 same-length c = search needs
 
 returns : tie.Need-returns
-returns c = cc
+returns c = put-on rowPushed (c .before .before .index-row .ensures) refl (c .before .before .before .read .ensures)
 
 pub index-standing-spec : {M : Type 1} → statement M
 index-standing-spec = tie.close (tie.spec read-requires index-row-requires same-length returns)

@@ -1,5 +1,8 @@
+use mathlib.Core.Path.{refl}
+use Rattle.closure.proofs.laws.Tables.{put-on}
 use borrow.Author.Needs.{needs}
-use Rattle.closure.specs.State.{rowPushed}
+use Rattle.chain.specs.Chain.{pushed}
+use Rattle.closure.specs.State.{linksAt, rowPushed}
 use Rattle.closure.proofs.index.index_row.Statement.{statement}
 use Rattle.closure.proofs.index.index_row.Tie as tie
 
@@ -44,7 +47,7 @@ same-length c = search needs
 
 returns : tie.Need-returns
 unfolding rowPushed
-returns c = cc
+returns c = put-on (λ s. pushed s linksAt) (c .before .before .push4 .ensures) (put-on (λ s. pushed s linksAt) (c .before .before .before .before .before .before .before .push3 .ensures) (put-on (λ s. pushed s linksAt) (c .before .before .before .before .before .before .before .before .before .before .before .before .push2 .ensures) (put-on (λ s. pushed s linksAt) (c .before .before .before .before .before .before .before .before .before .before .before .before .before .before .before .before .before .push .ensures) refl (c .before .before .before .before .before .before .before .before .before .before .before .before .before .before .before .before .before .before .wide .ensures)) (c .before .before .before .before .before .before .before .before .before .before .before .before .before .wide2 .ensures)) (c .before .before .before .before .before .before .before .before .wide3 .ensures)) (c .before .before .before .wide4 .ensures)
 
 pub index-row-spec : {M : Type 1} → statement M
 index-row-spec =

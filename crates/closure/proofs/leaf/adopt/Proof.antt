@@ -1,3 +1,7 @@
+use mathlib.Core.Path.{ap, _∙_}
+use Rattle.split.specs.declared.row.Row.{Row}
+use Rattle.tables.specs.Layout.{rowAt, putRow}
+use Rattle.run.specs.Run.{withChild}
 use borrow.Author.Needs.{needs}
 use Rattle.closure.proofs.leaf.adopt.Statement.{statement}
 use Rattle.closure.proofs.leaf.adopt.Tie as tie
@@ -24,7 +28,8 @@ same-length : tie.Need-same-length
 same-length c = search needs
 
 returns : tie.Need-returns
-returns c = (cc, cc)
+returns c = let r = c .before .before .before .before .before .before .read .ensures ∙ ap (rowAt _) (c .before .before .before .before .before .before .before .wide .ensures) in
+    (r, c .before .before .write .ensures ∙ (λ i. putRow (c .before .before .before .before .before .before .before .before .before .before .args .rows .now) (c .before .before .before .before .wide2 .ensures i) ((c .before .before .before .with-child .ensures ∙ ap (λ (x : Row). withChild x (c .before .before .before .before .before .before .before .before .before .before .args .n)) r) i)))
 
 pub adopt-spec : {M : Type 1} → statement M
 adopt-spec =

@@ -1,3 +1,7 @@
+use mathlib.Core.Path.{refl}
+use Rattle.tables.specs.Layout.{putRow}
+use Rattle.closure.specs.State.{rowPushed}
+use Rattle.closure.proofs.laws.Tables.{put-on}
 use borrow.Author.Needs.{needs}
 use Rattle.closure.proofs.leaf.bear.Statement.{statement}
 use Rattle.closure.proofs.leaf.bear.Tie as tie
@@ -24,7 +28,7 @@ same-length-2 : tie.Need-same-length-2
 same-length-2 c = search needs
 
 returns : tie.Need-returns
-returns c = (cc, cc)
+returns c = (put-on putRow (c .before .before .before .before .append2 .ensures .0) (put-on putRow (c .before .before .before .before .before .before .before .before .before .before .before .before .append .ensures .0) refl (c .before .before .before .before .before .before .before .before .before .before .before .before .before .first .ensures)) (c .before .before .before .before .before .second .ensures), put-on rowPushed (c .before .before .before .before .append2 .ensures .1) (put-on rowPushed (c .before .before .before .before .before .before .before .before .before .before .before .before .append .ensures .1) refl (c .before .before .before .before .before .before .before .before .before .before .before .before .before .first .ensures)) (c .before .before .before .before .before .second .ensures))
 
 pub bear-spec : {M : Type 1} → statement M
 bear-spec =

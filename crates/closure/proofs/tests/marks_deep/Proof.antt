@@ -1,3 +1,5 @@
+use mathlib.Core.Path.{ap, _∙_}
+use Rattle.closure.specs.Marks.{deepAt}
 use borrow.Author.Needs.{needs}
 use Rattle.closure.proofs.tests.marks_deep.Statement.{statement}
 use Rattle.closure.proofs.tests.marks_deep.Tie as tie
@@ -15,7 +17,7 @@ is-deep-requires : tie.Need-is-deep-requires
 is-deep-requires c κs = search needs
 
 returns : tie.Need-returns
-returns c = cc
+returns c = c .is-deep .ensures ∙ ap (deepAt _) (c .before .wide .ensures)
 
 pub marks-deep-spec : {M : Type 1} → statement M
 marks-deep-spec =

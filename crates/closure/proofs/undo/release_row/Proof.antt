@@ -1,3 +1,7 @@
+use mathlib.Core.Path.{refl, ap, _∙_}
+use Rattle.tables.specs.Layout.{putRow}
+use Rattle.closure.specs.Undo.{restored}
+use Rattle.closure.proofs.laws.Tables.{put-on}
 use borrow.Author.Needs.{needs}
 use Rattle.closure.proofs.undo.release_row.Statement.{statement}
 use Rattle.closure.proofs.undo.release_row.Tie as tie
@@ -15,7 +19,7 @@ same-length : tie.Need-same-length
 same-length c = search needs
 
 returns : tie.Need-returns
-returns c = cc
+returns c = put-on putRow (c .before .before .write .ensures) refl (c .before .before .before .restored .ensures ∙ ap (restored _) (c .before .before .before .before .before .read .ensures))
 
 pub release-row-spec : {M : Type 1} → statement M
 release-row-spec =
