@@ -1,5 +1,6 @@
 pub mod Answers
 pub mod Rows
+pub mod Uses
 pub mod Index
 pub mod Patch
 pub mod Gather

@@ -3,7 +3,8 @@ use mathlib.Core.Path.{_≡_}
 use mathlib.Core.Bool.{cond}
 use mathlib.Core.List.{List, [], _∷_}
 use Prim.Native.Nat.{ℕ, _+_, _-_, _*_, _/_, _≤_, _<_}
-use lib.ListN.{length, getD}
+use lib.Dec.{ltb}
+use lib.ListN.{length, getD, set}
 use Rattle.split.specs.declared.row.Row.{Row}
 use Rattle.split.specs.declared.row.Ends.{Ends}
 use Rattle.chain.specs.Chain.{Indexed, pushed}
@@ -28,20 +29,37 @@ recordsOf r n = upTo (recordAt r) n
 abbrev pub seen : List ℕ → List ℕ → Counts → Skeleton
 seen r w c = record { records = recordsOf r (c .vertices); rows = rowsOf w (c .rows) }
 
--- ---- the scratch table: heads, links, and at its end the patch
+-- ---- the scratch table: heads, links, uses, and at its end the patch
 
 abbrev pub linksAt : ℕ
 linksAt = 20000
 
+abbrev pub usesAt : ℕ
+usesAt = 420000
+
 abbrev pub patchAt : ℕ
-patchAt = 420000
+patchAt = 440000
 
 abbrev pub scratchLength : ℕ
-scratchLength = 520000
+scratchLength = 540000
 
--- row n with its four corners appended to the index
+-- four corners of row n appended to the index
+unfoldable pub cornersPushed : List ℕ → ℕ → Row → List ℕ
+cornersPushed s n r = pushed (pushed (pushed (pushed s linksAt (4 * n) (r .v0)) linksAt (4 * n + 1) (r .v1)) linksAt (4 * n + 2) (r .v2)) linksAt (4 * n + 3) (r .v3)
+
+abbrev pub bumped : ℕ → ℕ
+bumped u = cond (ltb u 4294967295) (u + 1) u
+
+-- one use of vertex v more. Nothing hangs on these counts but which end of an edge is walked
+unfoldable pub counted : List ℕ → ℕ → List ℕ
+counted s v = cond (ltb v linksAt) (set s (usesAt + v) (bumped (getD s (usesAt + v) 0))) s
+
+unfoldable pub rowCounted : List ℕ → Row → List ℕ
+rowCounted s r = counted (counted (counted (counted s (r .v0)) (r .v1)) (r .v2)) (r .v3)
+
+-- row n in the index, and its corners counted
 unfoldable pub rowPushed : List ℕ → ℕ → Row → List ℕ
-rowPushed s n r = pushed (pushed (pushed (pushed s linksAt (4 * n) (r .v0)) linksAt (4 * n + 1) (r .v1)) linksAt (4 * n + 2) (r .v2)) linksAt (4 * n + 3) (r .v3)
+rowPushed s n r = rowCounted (cornersPushed s n r) r
 
 -- the last k numbers of the scratch table: a patch, in ascending row order
 abbrev pub patchIn : List ℕ → ℕ → List ℕ

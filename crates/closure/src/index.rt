@@ -1,12 +1,15 @@
-// The index of corner slots: place 4 n + q has the key vertex q of row n. In the scratch table stand the heads, the links and, at its end, the patch that is being looked at.
+// The index of corner slots: place 4 n + q has the key vertex q of row n. In the scratch table stand the heads, the links, how often each vertex is used and, at its end, the patch that is being looked at.
+use split::row::Ends;
 use split::row::Row;
 ghost use mathlib.Core.Path.{_≡_};
 ghost use Prim.Native.Nat.{_<_};
-ghost use Rattle.closure.specs.State.{rowPushed};
+ghost use Rattle.closure.specs.State.{cornersPushed, bumped, counted, rowCounted, rowPushed, EndOf};
 
 pub const LINKS: usize = 20000;
 
-pub const SCRATCH: usize = 520000;
+pub const USES: usize = 420000;
+
+pub const SCRATCH: usize = 540000;
 
 // A number of a table as an index.
 pub fn wide(x: u32) -> usize
@@ -16,13 +19,69 @@ pub fn wide(x: u32) -> usize
 }
 
 // Appends the four corners of row n.
-pub fn index_row(scratch: &mut [u32], n: usize, r: Row)
+fn push_corners(scratch: &mut [u32], n: usize, r: Row)
     requires { ⌜ n < 100000 ⌝ }
-    ensures { λ _. ⌜ now (scratch .exit) ≡ rowPushed (now (scratch .entry)) n r ⌝ }
+    ensures { λ _. ⌜ now (scratch .exit) ≡ cornersPushed (now (scratch .entry)) n r ⌝ }
 {
     let s = 4 * n;
     chain::push(scratch, LINKS, s, wide(r.v0));
     chain::push(scratch, LINKS, s + 1, wide(r.v1));
     chain::push(scratch, LINKS, s + 2, wide(r.v2));
     chain::push(scratch, LINKS, s + 3, wide(r.v3));
+}
+
+fn bump(u: u32) -> u32
+    ensures { λ r. ⌜ r ≡ bumped u ⌝ }
+{
+    if u < 4294967295 { u + 1 } else { u }
+}
+
+// One use of vertex v more.
+fn count(scratch: &mut [u32], v: u32)
+    ensures { λ _. ⌜ now (scratch .exit) ≡ counted (now (scratch .entry)) v ⌝ }
+{
+    let k = wide(v);
+    if LINKS <= k {
+        return;
+    }
+    let at = USES + k;
+    if at < scratch.len() {
+        scratch[at] = bump(scratch[at]);
+    }
+}
+
+fn count_row(scratch: &mut [u32], r: Row)
+    ensures { λ _. ⌜ now (scratch .exit) ≡ rowCounted (now (scratch .entry)) r ⌝ }
+{
+    count(scratch, r.v0);
+    count(scratch, r.v1);
+    count(scratch, r.v2);
+    count(scratch, r.v3);
+}
+
+// Row n in the index, and its corners counted.
+pub fn index_row(scratch: &mut [u32], n: usize, r: Row)
+    requires { ⌜ n < 100000 ⌝ }
+    ensures { λ _. ⌜ now (scratch .exit) ≡ rowPushed (now (scratch .entry)) n r ⌝ }
+{
+    push_corners(scratch, n, r);
+    count_row(scratch, r);
+}
+
+fn uses(scratch: &[u32], v: u32) -> u32 {
+    let at = USES + wide(v);
+    if at < scratch.len() {
+        return scratch[at];
+    }
+    0
+}
+
+// The end of e that is in fewer rows. Any of the two is right: nothing is promised of the counts.
+pub fn rarer(scratch: &[u32], e: Ends) -> u32
+    ensures { λ a. ⌜ EndOf e a ⌝ }
+{
+    if uses(scratch, e.small) < uses(scratch, e.large) {
+        return e.small;
+    }
+    e.large
 }

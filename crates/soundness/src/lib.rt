@@ -44,10 +44,10 @@ pub fn check_in(
     records: &[u32],
     rows: &[u32],
     c: Counts,
-    work: &mut [u32; 520000],
+    work: &mut [u32; 540000],
 ) -> bool
     ensures { λ r. ⌜ Decides (Sound (lent (now (points .entry)) (now (records .entry)) (now (rows .entry))) c) r ⌝ }
-    ensures { λ _. ⌜ Cleared 520000 (now (work .exit)) ⌝ }
+    ensures { λ _. ⌜ Cleared 540000 (now (work .exit)) ⌝ }
 {
     let sound = decide(points, records, rows, c, work);
     steps::clear(work);

@@ -14,9 +14,10 @@ use Rattle.chain.proofs.laws.Pushed.{pushed-length}
 use Rattle.chain.proofs.laws.Index.{indexed-none, indexed-push-one}
 use Rattle.tables.specs.Layout.{rowAt}
 use Rattle.soundness.specs.Check.{corner}
-use Rattle.closure.specs.State.{linksAt, scratchLength, rowPushed, State}
+use Rattle.closure.specs.State.{linksAt, scratchLength, cornersPushed, rowPushed, State}
 use Rattle.closure.specs.Build.{Indexable, Headless}
-use Rattle.closure.proofs.laws.Index.{corner-row}
+use Rattle.closure.proofs.laws.Index.{corner-row, rowPushed-length}
+use Rattle.closure.proofs.laws.Uses.{row-counted-indexed}
 
 -- ---- the heads
 
@@ -62,24 +63,24 @@ module _ {w s₀ : List ℕ} {n : ℕ} (x : Indexable w s₀ n) where
       let key : corner w slot ≡ at (cornersOf (rowAt w k)) q = ap (corner w) e ∙ corner-row w k q h in
       rw (f, ← key) (indexed-push-one i (x .low slot (omega arith)) (omega (arith, x .few)) (omega (arith, x .few)))
 
-  row-added : (k : ℕ) (s : List ℕ) → k < n → length s ≡ scratchLength → Indexed (corner w) (4 * k) linksAt s → Indexed (corner w) (4 * (k + 1)) linksAt (rowPushed s k (rowAt w k))
-  unfolding rowPushed
-  row-added k s h e i =
+  corners-added : (k : ℕ) (s : List ℕ) → k < n → length s ≡ scratchLength → Indexed (corner w) (4 * k) linksAt s → Indexed (corner w) (4 * (k + 1)) linksAt (cornersPushed s k (rowAt w k))
+  unfolding cornersPushed
+  corners-added k s h e i =
       slot-added k (4 * k + 3) (4 * (k + 1)) 3 _ h (omega arith) refl (omega arith) (pushed-length _ _ _ _ ∙ pushed-length _ _ _ _ ∙ pushed-length _ _ _ _ ∙ e)
       (slot-added k (4 * k + 2) (4 * k + 3) 2 _ h (omega arith) refl (omega arith) (pushed-length _ _ _ _ ∙ pushed-length _ _ _ _ ∙ e)
       (slot-added k (4 * k + 1) (4 * k + 2) 1 _ h (omega arith) refl (omega arith) (pushed-length _ _ _ _ ∙ e)
       (slot-added k (4 * k) (4 * k + 1) 0 s h (omega arith) (omega arith) (omega arith) e i)))
 
-  length-added : (k : ℕ) (s : List ℕ) (r : Row) → length (rowPushed s k r) ≡ length s
+  row-added : (k : ℕ) (s : List ℕ) → k < n → length s ≡ scratchLength → Indexed (corner w) (4 * k) linksAt s → Indexed (corner w) (4 * (k + 1)) linksAt (rowPushed s k (rowAt w k))
   unfolding rowPushed
-  length-added k s r = pushed-length _ _ _ _ ∙ pushed-length _ _ _ _ ∙ pushed-length _ _ _ _ ∙ pushed-length _ _ _ _
+  row-added k s h e i = row-counted-indexed (cornersPushed s k (rowAt w k)) (rowAt w k) (omega (arith, x .few)) (corners-added k s h e i)
 
   pub building-room : {s : List ℕ} {k : ℕ} → Building w s n k → k < n → k < 100000
   building-room b h = omega (arith, x .few)
 
   pub building-next : {s s' : List ℕ} {k : ℕ} → Building w s n k → k < n → s' ≡ rowPushed s k (rowAt w k) → Building w s' n (k + 1)
   building-next {s} {s'} {k} b h e =
-      rw e (record { size = length-added k s (rowAt w k) ∙ b .size; index = row-added k s h (b .size) (b .index); within = omega arith })
+      rw e (record { size = rowPushed-length w s k (rowAt w k) ∙ b .size; index = row-added k s h (b .size) (b .index); within = omega arith })
 
   pub building-end : {s : List ℕ} {k : ℕ} → Building w s n k → n ≤ k → State w s n
   building-end {s} {k} b h =

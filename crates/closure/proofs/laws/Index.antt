@@ -21,7 +21,8 @@ use Rattle.tables.proofs.laws.Rows.{length-put-row, row-put}
 use Rattle.tables.proofs.laws.View.{length-up-to, up-to-at}
 use Rattle.soundness.specs.Check.{corner}
 use Rattle.run.specs.Run.{withChild, cut}
-use Rattle.closure.specs.State.{rowsOf, linksAt, patchAt, scratchLength, rowPushed, State, Splittable, Halves}
+use Rattle.closure.specs.State.{rowsOf, linksAt, patchAt, scratchLength, cornersPushed, rowPushed, State, Splittable, Halves}
+use Rattle.closure.proofs.laws.Uses.{row-counted-length, row-counted-beyond, row-counted-indexed}
 use Rattle.closure.proofs.laws.Rows.{row-other, rows-next, rows-set}
 
 -- the vertices of the row are below n
@@ -44,17 +45,25 @@ state-under {w} x r h p l = rw (← corner-row w r p l) (x .low (4 * r + p) (ome
 -- ---- one row appended
 
 module _ (w s : List ℕ) (n : ℕ) (r : Row) where
-  rowPushed-length : length (rowPushed s n r) ≡ length s
-  unfolding rowPushed
-  rowPushed-length = pushed-length _ _ _ _ ∙ pushed-length _ _ _ _ ∙ pushed-length _ _ _ _ ∙ pushed-length _ _ _ _
+  corners-length : length (cornersPushed s n r) ≡ length s
+  unfolding cornersPushed
+  corners-length = pushed-length _ _ _ _ ∙ pushed-length _ _ _ _ ∙ pushed-length _ _ _ _ ∙ pushed-length _ _ _ _
 
-  rowPushed-beyond : n < 100000 → (j : ℕ) → patchAt ≤ j → getD (rowPushed s n r) j 0 ≡ getD s j 0
+  pub rowPushed-length : length (rowPushed s n r) ≡ length s
   unfolding rowPushed
-  rowPushed-beyond h j l =
+  rowPushed-length = row-counted-length (cornersPushed s n r) r ∙ corners-length
+
+  corners-beyond : n < 100000 → (j : ℕ) → patchAt ≤ j → getD (cornersPushed s n r) j 0 ≡ getD s j 0
+  unfolding cornersPushed
+  corners-beyond h j l =
       pushed-beyond _ linksAt (4 * n + 3) (r .v3) j (omega arith)
       ∙ pushed-beyond _ linksAt (4 * n + 2) (r .v2) j (omega arith)
       ∙ pushed-beyond _ linksAt (4 * n + 1) (r .v1) j (omega arith)
       ∙ pushed-beyond s linksAt (4 * n) (r .v0) j (omega arith)
+
+  rowPushed-beyond : n < 100000 → (j : ℕ) → patchAt ≤ j → getD (rowPushed s n r) j 0 ≡ getD s j 0
+  unfolding rowPushed
+  rowPushed-beyond h j l = row-counted-beyond (cornersPushed s n r) r j l ∙ corners-beyond h j l
 
   module _ (x : State w s n) (room : n < length w / rowWidth) (few : n < 100000) (under : Under linksAt r) where
     abbrev w' : List ℕ
@@ -72,13 +81,17 @@ module _ (w s : List ℕ) (n : ℕ) (r : Row) where
         let key : corner w' k ≡ at (cornersOf r) q = ap (corner w') e ∙ corner-new q h in
         rw (f, ← key) (indexed-push-one i (rw key (under q h)) (omega arith) (omega arith))
 
-    rows-indexed : Indexed (corner w') (4 * (n + 1)) linksAt (rowPushed s n r)
-    unfolding rowPushed
-    rows-indexed =
+    corners-indexed : Indexed (corner w') (4 * (n + 1)) linksAt (cornersPushed s n r)
+    unfolding cornersPushed
+    corners-indexed =
         slot-pushed (4 * n + 3) (4 * (n + 1)) 3 _ (omega arith) refl (omega arith) (pushed-length _ _ _ _ ∙ pushed-length _ _ _ _ ∙ pushed-length _ _ _ _ ∙ x .size)
         (slot-pushed (4 * n + 2) (4 * n + 3) 2 _ (omega arith) refl (omega arith) (pushed-length _ _ _ _ ∙ pushed-length _ _ _ _ ∙ x .size)
         (slot-pushed (4 * n + 1) (4 * n + 2) 1 _ (omega arith) refl (omega arith) (pushed-length _ _ _ _ ∙ x .size)
         (slot-pushed (4 * n) (4 * n + 1) 0 s (omega arith) (omega arith) (omega arith) (x .size) (indexed-same (λ k h. sym (corner-old k h)) (x .index)))))
+
+    rows-indexed : Indexed (corner w') (4 * (n + 1)) linksAt (rowPushed s n r)
+    unfolding rowPushed
+    rows-indexed = row-counted-indexed (cornersPushed s n r) r (omega arith) corners-indexed
 
     pub state-appended : State w' (rowPushed s n r) (n + 1)
     state-appended = record {

@@ -16,18 +16,19 @@ use Rattle.tables.proofs.laws.View.{up-to-at}
 use Rattle.opening.specs.declared.answer.Found.{Found}
 use Rattle.run.specs.Run.{holders, otherIn, blocking}
 use Rattle.run.proofs.laws.Edge.{own-both}
-use Rattle.closure.specs.State.{rowsOf, linksAt, patchIn, State, large, Gatherable, Gathers, Listed}
+use Rattle.closure.specs.State.{rowsOf, linksAt, patchIn, State, EndOf, small, large, Gatherable, Gathers, Listed}
 use Rattle.closure.specs.Refining.{Patched, Lookable, Looks}
 use Rattle.closure.proofs.laws.Index.{Under, state-under}
 use Rattle.closure.proofs.laws.Cutting.{patched-listed}
 
--- the larger end of a row's edge is one of its vertices
-edge-under : (n : ℕ) (r : Row) → Under n r → edgeOf r .large < n
-edge-under n r u = let h = own-both r .large in rw (← h .is) (u (h .place) (h .inside))
+-- both ends of a row's edge are vertices of it
+end-under : (n : ℕ) (r : Row) (a : ℕ) → Under n r → EndOf (edgeOf r) a → a < n
+end-under n r a u (small e) = let h = own-both r .small in rw (e, ← h .is) (u (h .place) (h .inside))
+end-under n r a u (large e) = let h = own-both r .large in rw (e, ← h .is) (u (h .place) (h .inside))
 
 module _ {w s : List ℕ} {n q : ℕ} (x : Lookable w s n q) {e : Ends} (is : e ≡ edgeOf (rowAt w q)) where
-  pub look-ready : Gatherable w s n e (e .large)
-  look-ready = record { state = x .state; distinct = x .distinct; end = large refl; low = rw is (edge-under linksAt (rowAt w q) (state-under (x .state) q (x .there))) }
+  pub look-ready : {a : ℕ} → EndOf e a → Gatherable w s n e a
+  look-ready {a} o = record { state = x .state; distinct = x .distinct; end = o; low = end-under linksAt (rowAt w q) a (state-under (x .state) q (x .there)) (rw is at o) }
 
   module _ {k : ℕ} {s' : List ℕ} (g : Gathers w n e k s') where
     patched : Patched w s' n q k

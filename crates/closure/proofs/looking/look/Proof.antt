@@ -6,6 +6,9 @@ use Rattle.closure.proofs.looking.look.Tie as tie
 edge-of-requires : tie.Need-edge-of-requires
 edge-of-requires c κs = search needs
 
+rarer-requires : tie.Need-rarer-requires
+rarer-requires c κs = search needs
+
 gather-requires : tie.Need-gather-requires
 gather-requires c κs = search (looks, needs)
 
@@ -20,4 +23,4 @@ returns c = search (looks, needs)
 
 pub look-spec : {M : Type 1} → statement M
 look-spec =
-    tie.close (tie.spec edge-of-requires gather-requires first-other-requires same-length returns)
+    tie.close (tie.spec edge-of-requires rarer-requires gather-requires first-other-requires same-length returns)
