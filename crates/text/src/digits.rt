@@ -63,7 +63,7 @@ pub fn number(text: &[u8]) -> Value
     if 5 < text.len() {
         return Value::Not;
     }
-    if text[0] == 48 {
+    if text[0] == b'0' {
         if 1 < text.len() {
             return Value::Not;
         }

@@ -105,13 +105,13 @@ fn read_mark(line: &[u8], place: usize) -> Line
 pub fn read_line(line: &[u8], place: usize) -> Line
     ensures { λ r. ⌜ r ≡ lineOf (now (line .entry)) place ⌝ }
 {
-    if shaped(line, 86, 3) {
+    if shaped(line, b'V', 3) {
         return read_vertex(line, place);
     }
-    if shaped(line, 84, 4) {
+    if shaped(line, b'T', 4) {
         return read_element(line, place);
     }
-    if shaped(line, 77, 1) {
+    if shaped(line, b'M', 1) {
         return read_mark(line, place);
     }
     Line::Refused(place)

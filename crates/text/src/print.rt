@@ -35,7 +35,7 @@ pub fn print_c(out: &mut [u8; SIZE], at: usize, a: u64, b: u64, c: u64, d: u64) 
     requires { ⌜ Room 86 at ⌝ }
     ensures { λ e. ⌜ Puts 86 (now (out .entry)) at (cLine a b c d) (now (out .exit)) e ⌝ }
 {
-    let first = put(out, at, 67);
+    let first = put(out, at, b'C');
     let last = put_four(out, first, a, b, c, d);
     put(out, last, LINE_FEED)
 }
@@ -47,7 +47,7 @@ fn print_p(out: &mut [u8; SIZE], at: usize, points: &[f64], records: &[u32], v: 
 {
     let parents = tables::record::read(records, v);
     let place = tables::point::read(points, v);
-    let first = put(out, at, 80);
+    let first = put(out, at, b'P');
     let next = put_three(
         out,
         first,
@@ -90,7 +90,7 @@ fn print_row(
     ensures { λ e. ⌜ Puts 191 (now (out .entry)) at (lLine k root level (rowAt (now (rows .entry)) k)) (now (out .exit)) e ⌝ }
 {
     let r = tables::row::read(rows, k);
-    let first = put(out, at, 76);
+    let first = put(out, at, b'L');
     let next = put_four(out, first, long(k), long(root), wide(r.depth), wide(level));
     let corners = put_number(out, next, wide(r.tag));
     let last = put_four(out, corners, wide(r.v0), wide(r.v1), wide(r.v2), wide(r.v3));
