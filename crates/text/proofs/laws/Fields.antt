@@ -101,13 +101,23 @@ module _ {from : ℕ} {l : List ℕ} (i : Inside from l) where
   rest-length : from + length (drop from l) ≡ length l
   rest-length = rw (length-drop from l) (omega (arith, i .within))
 
-  pub stop-within : (s : ℕ) → stopOf s l from ≤ length l
-  unfolding stopOf
-  stop-within s = omega (arith, before-below s (drop from l), rest-length)
+  pub part-start : from ≤ length l
+  part-start = i .within
 
-  pub stop-after : (s : ℕ) → from ≤ stopOf s l from
-  unfolding stopOf
-  stop-after s = omega arith
+  module _ (s : ℕ) {e : ℕ} (q : e ≡ stopOf s l from) where
+    pub part-order : from ≤ e
+    unfolding stopOf
+    part-order = omega (arith, q)
+
+    pub part-fits : e ≤ length l
+    unfolding stopOf
+    part-fits = omega (arith, q, before-below s (drop from l), rest-length)
+
+    pub part-size : e - from ≤ length (drop from l)
+    part-size = rw (length-drop from l) (omega (arith, part-fits, part-order))
+
+-- the bytes from `from` to the first separator are a part of the text
+pub ruleset part = (part-start, part-order, part-fits, part-size)
 
 module _ (from : ℕ) (l : List ℕ) {e : ℕ} (q : e ≡ stopOf 9 l from) where
   pub next-more : e < length l → e + 1 ≡ nextOf l from
@@ -210,20 +220,7 @@ module _ (l : List ℕ) (k : ℕ) {at : ℕ} (q : at ≡ startOf l k) where
       let z : startOf l k + n - startOf l k ≡ n = omega arith in
       rw (r, q, z) (sym (part-zero 9 (drop (startOf l k) l)) ∙ started l k .field 0 ∙ rw (add-zero k))
 
-  module _ {e : ℕ} (r : e ≡ stopOf 9 l at) where
-    pub field-order : at ≤ e
-    field-order = rw r (stop-after field-inside 9)
-
-    pub field-start : at ≤ length l
-    field-start = field-inside .within
-
-    pub field-fits : e ≤ length l
-    field-fits = rw r (stop-within field-inside 9)
-
-    pub field-size : e - at ≤ length (drop at l)
-    field-size = rw (length-drop at l) (omega (arith, field-fits, field-order))
-
-pub ruleset fielding = (field-inside, field-is, field-order, field-start, field-fits, field-size)
+pub ruleset fielding = (field-inside, field-is, part)
 
 -- ---- how many
 

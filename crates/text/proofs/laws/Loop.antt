@@ -21,7 +21,7 @@ use Rattle.text.specs.Field.{parts, before, stopOf, Inside}
 use Rattle.text.specs.Line.{lineOf}
 use Rattle.text.specs.Input.{Input, Taken, taken, fault, takes, Reading, all, refused, readFrom, readAll}
 use Rattle.text.specs.Reading.{inputOf, Fits, Sized, Takes, Ready, Turns, Reads}
-use Rattle.text.proofs.laws.Fields.{parts-some, parts-more, parts-last, parts-none, stop-within, stop-after}
+use Rattle.text.proofs.laws.Fields.{parts-some, parts-more, parts-last, parts-none, part, part-order, part-fits}
 
 -- ---- the definition, line by line
 
@@ -73,18 +73,6 @@ pub one-inside : {at : ℕ} {l : List ℕ} {u : Used} {c : List Float} {e m : Li
 one-inside r = record { within = omega (arith, r .there) }
 
 module _ {at : ℕ} {l : List ℕ} {u : Used} {c₀ : List Float} {e₀ m₀ : List ℕ} (r : Ready at l u c₀ e₀ m₀) {end : ℕ} (q : end ≡ stopOf 10 l at) where
-  pub one-order : at ≤ end
-  one-order = rw q (stop-after (one-inside r) 10)
-
-  pub one-fits : end ≤ length l
-  one-fits = rw q (stop-within (one-inside r) 10)
-
-  pub one-size : end - at ≤ length (drop at l)
-  one-size = rw (length-drop at l) (omega (arith, one-fits, one-order))
-
-  pub one-start : at ≤ length l
-  one-start = one-inside r .within
-
   rest : length (drop at l) ≡ length l - at
   rest = length-drop at l
 
@@ -99,7 +87,7 @@ module _ {at : ℕ} {l : List ℕ} {u : Used} {c₀ : List Float} {e₀ m₀ : L
 
   module _ (h : end ≡ length l → ⊥) where
     pub one-within : end < length l
-    one-within = omega (arith, one-fits, h)
+    one-within = omega (arith, part-fits (one-inside r) 10 q, h)
 
     pub one-add : {b : ℕ} → length l < b → end + 1 < b
     one-add y = omega (arith, one-within, y)
@@ -114,7 +102,7 @@ module _ {at : ℕ} {l : List ℕ} {u : Used} {c₀ : List Float} {e₀ m₀ : L
       pub one-taken : {w : Used} → s ≡ step.Taken w → Turns l at k i (turn.Next (end + 1) w) c e m
       one-taken {w} z =
           let g = t .takes-all w z in
-          turn-next l at k i (t .sized) (end + 1) w (omega (arith, one-order)) (omega (arith, one-within)) (g .0)
+          turn-next l at k i (t .sized) (end + 1) w (omega (arith, part-order (one-inside r) 10 q)) (omega (arith, one-within)) (g .0)
           (rw one-parts (read-taken i k (take (end - at) (drop at l)) (parts 10 (drop (end + 1) l)) (parts-some 10 (drop (end + 1) l)) (inputOf c e m w) (rw ql at (g .1))))
 
       pub one-fault : {n : ℕ} → s ≡ step.Fault n → Turns l at k i (turn.Fault n) c e m
@@ -122,7 +110,7 @@ module _ {at : ℕ} {l : List ℕ} {u : Used} {c₀ : List Float} {e₀ m₀ : L
           turn-fault l at k i (t .sized) n
           (rw one-parts (read-fault i k (take (end - at) (drop at l)) (parts 10 (drop (end + 1) l)) (parts-some 10 (drop (end + 1) l)) n (rw ql at (t .faults n z))))
 
-pub ruleset one = (one-inside, one-order, one-fits, one-size, one-start, one-last, one-within, one-add, one-taken, one-fault)
+pub ruleset one = (one-inside, part, one-last, one-within, one-add, one-taken, one-fault)
 
 -- ---- the loop
 
