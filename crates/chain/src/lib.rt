@@ -23,3 +23,10 @@ pub fn push(index: &mut [u32], base: usize, i: usize, key: usize)
     index[base + i] = index[key];
     index[key] = (i + 1) as u32;
 }
+
+// A number of a table as an index or a key.
+pub fn wide(x: u32) -> usize
+    ensures { λ r. ⌜ r ≡ x ⌝ }
+{
+    x as usize
+}

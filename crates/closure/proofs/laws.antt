@@ -13,7 +13,6 @@ pub mod Tables
 pub mod Build
 pub mod Points
 pub mod Undo
-pub mod Marks
 pub mod Marking
 pub mod Blank
 pub mod Restored

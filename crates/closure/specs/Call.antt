@@ -1,37 +1,23 @@
 -- The parts of a call on sound tables. Nothing here is promised to callers.
 use mathlib.Core.Path.{_≡_}
 use mathlib.Core.List.{List}
-use Prim.Native.Nat.{ℕ, _-_, _/_, _≤_}
+use Prim.Native.Nat.{ℕ, _-_, _/_}
 use lib.ListN.{length}
 use lib.Ieee.{Float}
 use Rattle.tables.specs.declared.layout.Counts.{Counts}
-use Rattle.tables.specs.Layout.{recordWidth, noRecord, recordAt}
 use Rattle.tables.specs.Mesh.{Lent}
 use Rattle.opening.specs.declared.answer.Verdict.the-variants.{Passed}
 use Rattle.soundness.specs.Sound.{Sound}
 use Rattle.soundness.specs.Check.{lent}
+use Rattle.frame.specs.Marks.{onMarks}
+use Rattle.frame.specs.Points.{filled}
 use Rattle.closure.specs.declared.answer.Refined.{Refined}
 use Rattle.closure.specs.declared.answer.Refined.the-variants.{Done}
 use Rattle.closure.specs.State.{scratchLength}
-use Rattle.closure.specs.Marks.{onMarks}
-use Rattle.closure.specs.Points.{Fillable, Filled}
-use Rattle.closure.specs.Undo.{Emptied, Undoable, Undone}
 use Rattle.closure.specs.Refine.{OnRoom, OnMarks}
 
-pub record Undoing (r w : List ℕ) (c d : Counts) : Type 0 where
-  pub rows : Undoable w (c .rows) (d .rows)
-  pub records : d .vertices ≤ length r / recordWidth
-
-pub record Undoes (r w : List ℕ) (c d : Counts) (r' w' : List ℕ) : Type 0 where
-  pub rows : Undone w (c .rows) (d .rows) w'
-  pub records : Emptied recordAt noRecord r (c .vertices) (d .vertices) r'
-
-pub record Finishing (p : List Float) (c d : Counts) : Type 0 where
-  pub points : Fillable p (c .vertices) (d .vertices)
-  pub rows : c .rows ≤ d .rows
-
 pub record Finishes (p : List Float) (r : List ℕ) (c d : Counts) (o : Refined) (p' : List Float) : Type 0 where
-  pub points : Filled p r (c .vertices) (d .vertices) p'
+  pub points : p' ≡ filled p r (c .vertices) (d .vertices)
   pub answers : o ≡ Done d ((d .rows - c .rows) / 2)
 
 pub record Closable (p : List Float) (r w s : List ℕ) (c : Counts) (marks : List ℕ) : Type 0 where

@@ -1,9 +1,6 @@
 pub mod State
 pub mod Refining
 pub mod Build
-pub mod Points
-pub mod Undo
-pub mod Marks
 pub mod Marking
 pub mod Refine
 pub mod Call

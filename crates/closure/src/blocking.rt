@@ -1,6 +1,6 @@
 // The leaf that is refined first: of the leaves that the scratch table lists, the first whose own edge is another one (document 01, "Closure").
 use crate::index::SCRATCH;
-use crate::index::wide;
+use chain::wide;
 use opening::answer::Found;
 use split::row::Ends;
 ghost use mathlib.Core.Path.{_≡_};

@@ -2,52 +2,22 @@
 use crate::answer::Refined;
 use crate::build::index_rows;
 use crate::marks::refine_marks;
-use crate::points::fill_points;
 use crate::step::Step;
-use crate::tests::any_deep;
-use crate::tests::first_missing;
-use crate::undo::clear_records;
-use crate::undo::undo_rows;
-use opening::answer::Found;
+use frame::marks::judge;
+use frame::points::fill;
+use frame::undo::undo;
 use opening::answer::Verdict;
 use tables::layout::Counts;
-ghost use mathlib.Core.Path.{_≡_};
+ghost use Prim.Native.Nat.{_≤_};
 ghost use Rattle.soundness.specs.Check.{lent};
-ghost use Rattle.closure.specs.Marks.{onMarks};
-ghost use Rattle.closure.specs.Call.{Undoing, Undoes, Finishing, Finishes, Closable, Closes, Callable, Calls};
-
-// Numbers 10 and 11.
-fn judge(rows: &[u32], n: usize, marks: &[u32]) -> Verdict
-    ensures { λ v. ⌜ v ≡ onMarks (now (rows .entry)) n (now (marks .entry)) ⌝ }
-{
-    let missing = first_missing(marks, n);
-    if let Found::At(place) = missing {
-        return Verdict::Refused { number: 10, place };
-    }
-    if any_deep(rows, marks) {
-        return Verdict::Refused {
-            number: 11,
-            place: 0,
-        };
-    }
-    Verdict::Passed
-}
-
-// Gives back the rows and records of the counts c in tables that have grown to d.
-fn undo(records: &mut [u32], rows: &mut [u32], c: Counts, d: Counts)
-    requires { ⌜ Undoing (now records) (now rows) c d ⌝ }
-    ensures { λ _. ⌜ Undoes (now (records .entry)) (now (rows .entry)) c d (now (records .exit)) (now (rows .exit)) ⌝ }
-{
-    undo_rows(rows, c.rows, d.rows);
-    clear_records(records, c.vertices, d.vertices);
-}
+ghost use Rattle.closure.specs.Call.{Finishes, Closable, Closes, Callable, Calls};
 
 // Fills in the points of the midpoints appended since the counts c, and answers.
 fn finish(points: &mut [f64], records: &[u32], c: Counts, d: Counts) -> Refined
-    requires { ⌜ Finishing (now points) c d ⌝ }
+    requires { ⌜ c .rows ≤ d .rows ⌝ }
     ensures { λ o. ⌜ Finishes (now (points .entry)) (now (records .entry)) c d o (now (points .exit)) ⌝ }
 {
-    fill_points(points, records, c.vertices, d.vertices);
+    fill(points, records, c.vertices, d.vertices);
     Refined::Done {
         counts: d,
         splits: (d.rows - c.rows) / 2,

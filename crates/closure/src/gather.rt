@@ -1,7 +1,7 @@
 // The patch of an edge: the leaves holding both its ends, found through the corners of one end (document 01, "Closure").
 use crate::index::LINKS;
 use crate::index::SCRATCH;
-use crate::index::wide;
+use chain::wide;
 use split::row::Ends;
 use split::row::Row;
 ghost use mathlib.Core.Path.{_≡_};

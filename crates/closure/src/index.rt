@@ -1,4 +1,5 @@
 // The index of corner slots: place 4 n + q has the key vertex q of row n. In the scratch table stand the heads, the links, how often each vertex is used and, at its end, the patch that is being looked at.
+use chain::wide;
 use split::row::Ends;
 use split::row::Row;
 ghost use mathlib.Core.Path.{_≡_};
@@ -10,13 +11,6 @@ pub const LINKS: usize = 20000;
 pub const USES: usize = 420000;
 
 pub const SCRATCH: usize = 540000;
-
-// A number of a table as an index.
-pub fn wide(x: u32) -> usize
-    ensures { λ r. ⌜ r ≡ x ⌝ }
-{
-    x as usize
-}
 
 // Appends the four corners of row n.
 fn push_corners(scratch: &mut [u32], n: usize, r: Row)

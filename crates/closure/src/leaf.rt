@@ -1,6 +1,6 @@
 // The split of one leaf: its first child and then its second are appended (document 01, "Closure").
 use crate::index::index_row;
-use crate::index::wide;
+use chain::wide;
 use split::row::Row;
 ghost use mathlib.Core.Path.{_≡_};
 ghost use Prim.Native.Nat.{_+_, _<_};

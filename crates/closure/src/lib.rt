@@ -10,11 +10,8 @@ mod leaf;
 mod looking;
 mod marks;
 mod patch;
-mod points;
 mod refining;
 mod step;
-mod tests;
-mod undo;
 
 use crate::answer::Refined;
 use crate::index::SCRATCH;

@@ -1,7 +1,7 @@
 // All marks of a call, in list order (document 01, "Closure").
-use crate::index::wide;
 use crate::refining::refine_leaf;
 use crate::step::Step;
+use chain::wide;
 use tables::layout::Counts;
 ghost use Prim.Native.Nat.{_<_};
 ghost use lib.ListN.{length, getD};

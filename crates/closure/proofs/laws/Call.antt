@@ -29,6 +29,11 @@ use Rattle.run.proofs.laws.Grows.{Grows}
 use Rattle.run.proofs.laws.Reach.{reach-ready, reach-grows}
 use Rattle.run.proofs.laws.Room.{enough-room}
 use Rattle.run.proofs.laws.Refused.{no-room}
+use Rattle.frame.specs.Marks.{onMarks}
+use Rattle.frame.specs.Points.{filled}
+use Rattle.frame.specs.Undo.{restored, emptiedRecords, undone}
+use Rattle.frame.proofs.laws.Marks.{told, Told, deeps}
+use Rattle.frame.proofs.laws.Marks as judged
 use Rattle.closure.specs.declared.answer.Refined.{Refined}
 use Rattle.closure.specs.declared.answer.Refined.the-variants.{Done, Refused}
 use Rattle.closure.specs.declared.step.Step.{Step}
@@ -36,18 +41,17 @@ use Rattle.closure.specs.declared.step.Step.the-variants as step
 use Rattle.closure.specs.State.{rowsOf, recordsOf, seen, scratchLength, State}
 use Rattle.closure.specs.Build.{Indexable}
 use Rattle.closure.specs.Refining.{Tables}
-use Rattle.closure.specs.Marks.{onMarks}
 use Rattle.closure.specs.Marking.{AllDue, Ended, Failed, Marks}
-use Rattle.closure.specs.Undo.{restored, Emptied, Undoable, Undone}
 use Rattle.closure.specs.Refine.{absent, roomIn, reported, Accepts, OnRoom, outgrown, fits, OnDepth, deep, shallow, OnMarks, missing, present, Refines, unsound, sound}
-use Rattle.closure.specs.Call.{Undoing, Undoes, Finishing, Finishes, Closable, Closes, Callable, Calls}
+use Rattle.closure.specs.Call.{Finishes, Closable, Closes, Callable, Calls}
 use Rattle.closure.proofs.laws.Tables.{rows-same, records-same}
 use Rattle.closure.proofs.laws.Blank.{rows-blank, records-blank, points-blank, rows-padded, records-padded, points-padded}
 use Rattle.closure.proofs.laws.Restored.{restored-row}
 use Rattle.closure.proofs.laws.Entry.{Roomy, roomy, entry-mesh, entry-ready, entry-index, entry-tables, entry-steady}
 use Rattle.closure.proofs.laws.Marking.{within-room}
-use Rattle.closure.proofs.laws.Judged.{told, Told, deeps, refused-never, mark-fine, marks-markable, marks-shallow, marks-deep}
-use Rattle.closure.proofs.laws.Judged as judged
+use Rattle.closure.proofs.laws.Judged.{refused-never, mark-fine, marks-markable, marks-shallow, marks-deep}
+use Rattle.closure.proofs.laws.Undo.{Emptied, Undoable, Undone, undone-right, records-emptied}
+use Rattle.closure.proofs.laws.Points.{Fillable, Filled, filled-right}
 use Rattle.closure.proofs.laws.Promise.{refuses}
 
 -- ---- what a passed verdict tells
@@ -94,20 +98,26 @@ module _ {p : List Float} {r w s : List ℕ} {c : Counts} {marks : List ℕ} (x 
     abbrev ew : length w' ≡ length w
     ew = k .rows-size
 
-    pub close-undo : Undoing r' w' c d
-    close-undo =
+    rows-undoable : Undoable w' (c .rows) (d .rows)
+    rows-undoable =
         let t = f .tables in
-        record {
-          rows = record { old = rw ew (omega (arith, x .sound .fitting .rows-fit, fit .rows-fit)); all = omega (arith, t .rows-in, t .rows-fit) };
-          records = omega (arith, t .vertices-in, t .records-fit);
-        }
+        record { old = rw ew (omega (arith, x .sound .fitting .rows-fit, fit .rows-fit)); all = omega (arith, t .rows-in, t .rows-fit) }
 
-    module _ {r'' w'' : List ℕ} (u : Undoes r' w' c d r'' w'') where
+    records-fit : d .vertices ≤ length r' / recordWidth
+    records-fit = omega (arith, f .tables .vertices-in, f .tables .records-fit)
+
+    module _ {r'' w'' : List ℕ} (undo : (w'' ≡ undone w' (c .rows) (d .rows)) × (r'' ≡ emptiedRecords r' (c .vertices) (d .vertices))) where
+      rows-undone : Undone w' (c .rows) (d .rows) w''
+      rows-undone = undone-right rows-undoable (undo .0)
+
+      records-undone : Emptied recordAt noRecord r' (c .vertices) (d .vertices) r''
+      records-undone = records-emptied records-fit (undo .1)
+
       grows : Grows (meshed (meshOf (lent p r w) c .points) (seen r w c)) (meshed (meshOf (lent p r w) c .points) (seen r' w' d)) (x .sound .initials) (x .sound .roots)
       grows = reach-grows (f .reach) (entry-ready (x .sound))
 
       record-back : (k : ℕ) → recordAt r'' k ≡ recordAt r k
-      record-back k = u .records .things k ∙ go (le-or-lt (c .vertices) k) (le-or-lt (d .vertices) k)
+      record-back k = records-undone .things k ∙ go (le-or-lt (c .vertices) k) (le-or-lt (d .vertices) k)
         where
           blank : c .vertices ≤ k → recordAt r k ≡ noRecord
           blank h = records-blank r (c .vertices) (x .sound .unused .records) k h
@@ -132,17 +142,17 @@ module _ {p : List Float} {r w s : List ℕ} {c : Counts} {marks : List ℕ} (x 
           more = omega (arith, grows .more-rows, size, length-up-to (rowAt w') (d .rows))
 
           go : (c .rows ≤ k) ⊎ (k < c .rows) → rowAt w'' k ≡ rowAt w k
-          go (inl a) = u .rows .blank (f .tables .state .blank) k a ∙ sym (rows-blank w (c .rows) (x .sound .unused .rows) k a)
+          go (inl a) = rows-undone .blank (f .tables .state .blank) k a ∙ sym (rows-blank w (c .rows) (x .sound .unused .rows) k a)
           go (inr a) =
-              u .rows .rows k a ∙ ap (restored (c .rows)) (sym (up-to-at (rowAt w') (d .rows) k noRow (omega (arith, more))))
+              rows-undone .rows k a ∙ ap (restored (c .rows)) (sym (up-to-at (rowAt w') (d .rows) k noRow (omega (arith, more))))
               ∙ subst (λ (n : ℕ). restored n (getD (rowsOf w' (d .rows)) k noRow) ≡ getD (rowsOf w (c .rows)) k noRow) size (restored-row (entry-ready (x .sound) .grown) (reach-ready (f .reach) (entry-ready (x .sound)) .grown) grows k (rw size a))
               ∙ up-to-at (rowAt w) (c .rows) k noRow a
 
       tables-back : lent p r'' w'' ≡ lent p r w
       tables-back = λ j. record {
         points = p;
-        records = records-same r r'' (x .sound .fitting .records) (u .records .size ∙ er) record-back j;
-        rows = rows-same w w'' (x .sound .fitting .rows) (u .rows .size ∙ ew) row-back j;
+        records = records-same r r'' (x .sound .fitting .records) (records-undone .size ∙ er) record-back j;
+        rows = rows-same w w'' (x .sound .fitting .rows) (rows-undone .size ∙ ew) row-back j;
       }
 
       pub close-full : Closes (lent p r w) c marks (Refused 2 0) (lent p r'' w'')
@@ -170,23 +180,26 @@ module _ {p : List Float} {r w s : List ℕ} {c : Counts} {marks : List ℕ} (x 
     inside : (d .vertices ≤ room .vertices) × (d .rows ≤ room .rows)
     inside = (rw eo at (ended .tables .vertices-in), rw eo at (ended .tables .rows-in))
 
-    pub close-finish : Finishing p c d
-    close-finish = record {
-      points = record {
-        ordered = omega (arith, grown-to .more-vertices, length-up-to (recordAt r) (c .vertices), length-up-to (recordAt r') (d .vertices));
-        fits = omega (arith, inside .0, fit .points-fit);
-        blank = points-blank p (c .vertices) (x .sound .unused .points);
-      };
-      rows = omega (arith, grown-to .more-rows, length-up-to (rowAt w) (c .rows), length-up-to (rowAt w') (d .rows));
+    pub close-finish : c .rows ≤ d .rows
+    close-finish = omega (arith, grown-to .more-rows, length-up-to (rowAt w) (c .rows), length-up-to (rowAt w') (d .rows))
+
+    fillable : Fillable p (c .vertices) (d .vertices)
+    fillable = record {
+      ordered = omega (arith, grown-to .more-vertices, length-up-to (recordAt r) (c .vertices), length-up-to (recordAt r') (d .vertices));
+      fits = omega (arith, inside .0, fit .points-fit);
+      blank = points-blank p (c .vertices) (x .sound .unused .points);
     }
 
     module _ {a : Refined} {p' : List Float} (g : Finishes p r' c d a p') where
+      points-filled : Filled p r' (c .vertices) (d .vertices) p'
+      points-filled = filled-right fillable (g .points)
+
       points-are : upTo (pointAt p') (d .vertices) ≡ meshed (meshOf (lent p r w) c .points) (seen r' w' d) .points
       unfolding meshOf
-      points-are = g .points .points ∙ ap (λ (n : ℕ). extended (upTo (pointAt p) (c .vertices)) (drop n (recordsOf r' (d .vertices)))) (sym (length-up-to (pointAt p) (c .vertices)))
+      points-are = points-filled .points ∙ ap (λ (n : ℕ). extended (upTo (pointAt p) (c .vertices)) (drop n (recordsOf r' (d .vertices)))) (sym (length-up-to (pointAt p) (c .vertices)))
 
       points-laid : p' ≡ padded (length p) noFloat (flat pointCells (meshed (meshOf (lent p r w) c .points) (seen r' w' d) .points))
-      points-laid = rw (g .points .size, points-are) at (points-padded p' (d .vertices) (rw (g .points .size) (x .sound .fitting .points)) (rw (g .points .size) (omega (arith, inside .0, fit .points-fit))) (g .points .blank))
+      points-laid = rw (points-filled .size, points-are) at (points-padded p' (d .vertices) (rw (points-filled .size) (x .sound .fitting .points)) (rw (points-filled .size) (omega (arith, inside .0, fit .points-fit))) (points-filled .blank))
 
       records-laid : r' ≡ padded (length r) 0 (flat recordCells (recordsOf r' (d .vertices)))
       records-laid = rw lr at (records-padded r' (d .vertices) (rw lr (x .sound .fitting .records)) (rw lr (omega (arith, inside .0, fit .records-fit))) (ended .tables .blank))
@@ -215,7 +228,7 @@ module _ {p : List Float} {r w s : List ℕ} {c : Counts} {marks : List ℕ} (x 
             accepted;
       }
 
-pub ruleset closing = (close-index, close-due, close-undo, close-full, close-finish, close-done)
+pub ruleset closing = (close-index, close-due, close-full, close-finish, close-done)
 
 -- ---- the call
 

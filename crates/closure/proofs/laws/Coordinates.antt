@@ -20,7 +20,8 @@ use Rattle.closure.specs.declared.answer.Refined.{Refined}
 use Rattle.closure.specs.declared.answer.Refined.the-variants.{Done, Refused}
 use Rattle.closure.specs.Refine.{absent, roomIn, Refuses, Accepts, OnRoom, outgrown, fits, OnDepth, deep, shallow, OnMarks, missing, present, Refines, unsound, sound}
 use Rattle.closure.proofs.laws.Entry.{roomy}
-use Rattle.closure.proofs.laws.Judged.{deeps, marks-deep, marks-shallow}
+use Rattle.frame.proofs.laws.Marks.{deeps}
+use Rattle.closure.proofs.laws.Judged.{marks-deep, marks-shallow}
 use Rattle.closure.proofs.laws.Promise.{done-counts, done-splits, found-one, found-never, judged-by, refused-same}
 use Rattle.closure.proofs.laws.Within.{run-within}
 use Rattle.closure.proofs.laws.Taken.{was-sound, sound-mesh, sound-ready, sound-within, sound-markable}

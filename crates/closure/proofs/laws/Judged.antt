@@ -29,46 +29,12 @@ use Rattle.run.specs.Skeleton.{meshed}
 use Rattle.run.proofs.laws.Marks.{Markable, AllMarkable}
 use Rattle.run.proofs.laws.Demanded.{marked-deep, not-deep}
 use Rattle.closure.specs.State.{rowsOf, seen}
-use Rattle.closure.specs.Marks.{deepAt, onMarks}
+use Rattle.frame.specs.Marks.{deepAt}
+use Rattle.frame.proofs.laws.Marks.{deeps}
 use Rattle.closure.specs.Marking.{Fine}
 use Rattle.closure.specs.Refine.{absent}
 use Rattle.closure.proofs.laws.Cutting.{member-at}
 use Rattle.closure.proofs.laws.Entry.{entry-mesh, entry-ready}
-
--- ---- the verdict
-
-module _ (w : List ℕ) (n : ℕ) (marks : List ℕ) where
-  abbrev pub deeps : Bool
-  deeps = any (λ j. deepAt w (getD marks j 0)) (length marks)
-
-  pub judged-missing : {f : Found} {p : ℕ} → f ≡ first (absent n marks) (length marks) → f ≡ At p → Refused 10 p ≡ onMarks w n marks
-  unfolding onMarks
-  judged-missing e f = rw (← e, f)
-
-  pub judged-deep : {f : Found} {b : Bool} → f ≡ first (absent n marks) (length marks) → f ≡ Nowhere → b ≡ deeps → b ≡ true → Refused 11 0 ≡ onMarks w n marks
-  unfolding onMarks
-  judged-deep e f g h = rw (← e, f, ← g, h)
-
-  pub judged-passed : {f : Found} {b : Bool} → f ≡ first (absent n marks) (length marks) → f ≡ Nowhere → b ≡ deeps → b ≡ false → Passed ≡ onMarks w n marks
-  unfolding onMarks
-  judged-passed e f g h = rw (← e, f, ← g, h)
-
-  -- what a verdict tells
-  pub data Told (v : Verdict) : Type 0 where
-    missing : (p : ℕ) → first (absent n marks) (length marks) ≡ At p → v ≡ Refused 10 p → Told v
-    deep : first (absent n marks) (length marks) ≡ Nowhere → deeps ≡ true → v ≡ Refused 11 0 → Told v
-    passed : first (absent n marks) (length marks) ≡ Nowhere → deeps ≡ false → v ≡ Passed → Told v
-
-  pub told : Told (onMarks w n marks)
-  unfolding onMarks
-  told = go (first (absent n marks) (length marks)) refl deeps refl
-    where
-      go : (f : Found) → first (absent n marks) (length marks) ≡ f → (b : Bool) → any (λ j. deepAt w (getD marks j 0)) (length marks) ≡ b → Told (at f 10 (when b 11 Passed))
-      go (At p) e b g = missing p e refl
-      go Nowhere e true g = deep e g refl
-      go Nowhere e false g = passed e g refl
-
-pub ruleset judging = (judged-missing, judged-deep, judged-passed)
 
 pub refused-never : {X : Type 0} {n p : ℕ} → Refused n p ≡ Passed → X
 refused-never e = let z : _≡_ {A = ℕ} 0 1 = cc in absurd (omega arith)

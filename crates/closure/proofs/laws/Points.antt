@@ -18,7 +18,8 @@ use Rattle.tables.proofs.laws.View.{up-to-next, length-up-to, up-to-at}
 use Rattle.soundness.proofs.laws.Flat.{up-to-same}
 use Rattle.run.specs.Skeleton.{extended}
 use Rattle.run.proofs.laws.Points.{halfway, points-next}
-use Rattle.closure.specs.Points.{halfwayAt, Fillable, Filled}
+use Rattle.frame.specs.Points.{halfwayAt, withPoint, filled}
+use Rattle.frame.proofs.laws.Steps.{over-keeps}
 use Rattle.closure.proofs.laws.Tables.{put-other}
 
 -- ---- the point table as a list of points
@@ -43,7 +44,19 @@ extended-next : (P : List Point) (r : List ℕ) (from v : ℕ) → length P ≡ 
 extended-next P r from v e h =
     rw (up-to-next (recordAt r) v, ← e) (points-next P (record { records = upTo (recordAt r) v; rows = [] }) (omega (arith, length-up-to (recordAt r) v)) (recordAt r v))
 
--- ---- the loop
+-- ---- all of them
+
+-- the points of the vertices from `from` on, below `to`, can be stored
+pub record Fillable (p : List Float) (from to : ℕ) : Type 0 where
+  pub ordered : from ≤ to
+  pub fits : to ≤ length p / pointWidth
+  pub blank : (k : ℕ) → from ≤ k → pointAt p k ≡ noPoint
+
+-- they are stored
+pub record Filled (p : List Float) (r : List ℕ) (from to : ℕ) (p' : List Float) : Type 0 where
+  pub size : length p' ≡ length p
+  pub points : upTo (pointAt p') to ≡ extended (upTo (pointAt p) from) (drop from (upTo (recordAt r) to))
+  pub blank : (k : ℕ) → to ≤ k → pointAt p' k ≡ noPoint
 
 -- the points below v are stored
 pub record Storing (p : List Float) (r : List ℕ) (from to : ℕ) (p' : List Float) (v : ℕ) : Type 0 where
@@ -58,7 +71,7 @@ none-left : (r : List ℕ) (n : ℕ) → drop n (upTo (recordAt r) n) ≡ []
 none-left r n = ap (λ (k : ℕ). drop k (upTo (recordAt r) n)) (sym (length-up-to (recordAt r) n)) ∙ drop-length (upTo (recordAt r) n)
 
 module _ {p : List Float} {from to : ℕ} (x : Fillable p from to) where
-  pub storing-start : {r : List ℕ} → Storing p r from to p from
+  storing-start : {r : List ℕ} → Storing p r from to p from
   unfolding extended
   storing-start {r} = record { size = refl; above = omega arith; within = x .ordered; points = rw (none-left r from); blank = x .blank }
 
@@ -75,7 +88,7 @@ module _ {p : List Float} {from to : ℕ} (x : Fillable p from to) where
         ∙ rw (← halfway-read p' v (s .blank) (recordAt r v), s .points)
         (sym (extended-next (upTo (pointAt p) from) r from v (length-up-to (pointAt p) from) (s .above)))
 
-    pub storing-next : {p'' : List Float} → p'' ≡ putPoint p' v (halfwayAt p' (recordAt r v)) → Storing p r from to p'' (v + 1)
+    storing-next : {p'' : List Float} → p'' ≡ putPoint p' v (halfwayAt p' (recordAt r v)) → Storing p r from to p'' (v + 1)
     storing-next e = rw e (record {
       size = length-put-point p' v new ∙ s .size;
       above = omega (arith, s .above);
@@ -84,13 +97,8 @@ module _ {p : List Float} {from to : ℕ} (x : Fillable p from to) where
       blank = λ k l. put-other points p' v new room k (λ q. omega arith) ∙ s .blank k (omega arith);
     })
 
-  pub storing-end : {r : List ℕ} {p' : List Float} {v : ℕ} → Storing p r from to p' v → to ≤ v → Filled p r from to p'
-  storing-end {v = v} s h = done (rw last at s)
+  pub filled-right : {r : List ℕ} {p' : List Float} → p' ≡ filled p r from to → Filled p r from to p'
+  filled-right {r} e = rw e (done (over-keeps (withPoint r) p from to (x .ordered) (Storing p r from to) storing-start (λ p' v h s. storing-next s h refl)))
     where
-      last : v ≡ to
-      last = omega (arith, s .within)
-
       done : {r : List ℕ} {p' : List Float} → Storing p r from to p' to → Filled p r from to p'
       done t = record { size = t .size; points = t .points; blank = t .blank }
-
-pub ruleset storing = (storing-start, storing-next, storing-end)

@@ -11,7 +11,7 @@ use Rattle.tables.specs.Mesh.{Mesh}
 use Rattle.soundness.specs.Sound.{rows, rowOf, childless, Grown}
 use Rattle.run.specs.Run.{withChild}
 use Rattle.run.proofs.laws.Grows.{Grows}
-use Rattle.closure.specs.Undo.{restored}
+use Rattle.frame.specs.Undo.{restored}
 
 restored-new : (n : ℕ) (r : Row) → n ≤ r .child → restored n r ≡ withChild r 0
 unfolding restored

@@ -40,7 +40,3 @@ records-same l m e f h = table-same records l m (length l / recordWidth) (omega 
 
 pub points-same : (l m : List Float) → length l % pointWidth ≡ 0 → length m ≡ length l → ((k : ℕ) → pointAt m k ≡ pointAt l k) → m ≡ l
 points-same l m e f h = table-same points l m (length l / pointWidth) (omega arith) f h
-
--- an item put into what is left of a table, where both are known by other names
-pub put-on : {L X : Type 0} (put : L → ℕ → X → L) {n : ℕ} {l l' t : L} {x x' : X} → t ≡ put l n x → l ≡ l' → x ≡ x' → t ≡ put l' n x'
-put-on put {n} e f g = e ∙ (λ i. put (f i) n (g i))

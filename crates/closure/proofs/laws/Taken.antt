@@ -19,7 +19,8 @@ use Rattle.run.proofs.laws.Marks.{AllMarkable}
 use Rattle.closure.specs.declared.answer.Refined.the-variants.{Done}
 use Rattle.closure.specs.Refine.{absent, roomIn, Accepts, outgrown, fits, deep, shallow, OnMarks, missing, present, Refines, unsound, sound}
 use Rattle.closure.proofs.laws.Entry.{entry-mesh, entry-ready}
-use Rattle.closure.proofs.laws.Judged.{deeps, marks-markable, marks-deep}
+use Rattle.frame.proofs.laws.Marks.{deeps}
+use Rattle.closure.proofs.laws.Judged.{marks-markable, marks-deep}
 use Rattle.closure.proofs.laws.Promise.{done-never, judged-by}
 
 -- ---- an accepted call passed every test

@@ -11,23 +11,13 @@ use lib.Dec.{leb, ltb}
 use lib.ListN.{length}
 use Rattle.split.specs.declared.row.Row.{Row}
 use Rattle.split.proofs.laws.Places.{le-or-lt}
-use Rattle.tables.specs.Layout.{rowWidth, noRow, rowAt, putRow}
+use Rattle.tables.specs.Layout.{rowWidth, recordWidth, noRow, noRecord, rowAt, recordAt, putRow}
 use Rattle.tables.proofs.laws.Table.{Table, at-put, length-put}
 use Rattle.tables.proofs.laws.Rows.{rows, records}
-use Rattle.run.specs.Run.{withChild}
-use Rattle.closure.specs.Undo.{restored, Released, Emptied, Undone}
+use Rattle.frame.specs.Steps.{over}
+use Rattle.frame.specs.Undo.{restored, withRestored, withoutRow, withoutRecord, released, emptiedRecords, undone}
+use Rattle.frame.proofs.laws.Steps.{over-keeps, none-over}
 use Rattle.closure.proofs.laws.Tables.{put-other}
-
--- ---- one row
-
-module _ (n : ℕ) (r : Row) {child : ℕ} (is : child ≡ r .child) where
-  pub restored-kept : child < n → r ≡ restored n r
-  unfolding restored
-  restored-kept h = rw (lt-leb n (r .child) (omega (arith, is, h)))
-
-  pub restored-child : n ≤ child → withChild r 0 ≡ restored n r
-  unfolding restored
-  restored-child h = rw (le-leb n (r .child) (omega (arith, is, h)))
 
 -- ---- a range
 
@@ -49,6 +39,29 @@ ltb-next j k d = elim (le-or-lt k j) [
   | inr l ↦ lt-ltb j k l ∙ sym (lt-ltb j (k + 1) (omega arith))
   | inl l ↦ le-ltb j k l ∙ sym (le-ltb j (k + 1) (omega arith))
 ]
+
+-- ---- what is left
+
+-- the first n rows are restored
+pub record Released (w : List ℕ) (n : ℕ) (w' : List ℕ) : Type 0 where
+  pub size : length w' ≡ length w
+  pub rows : (k : ℕ) → rowAt w' k ≡ cond (ltb k n) (restored n (rowAt w k)) (rowAt w k)
+
+-- in a table whose k-th thing is `at` k, zeros stand from `from` on, below `to`
+pub record Emptied {A B : Type 0} (at : List B → ℕ → A) (none : A) (l : List B) (from to : ℕ) (l' : List B) : Type 0 where
+  pub size : length l' ≡ length l
+  pub things : (k : ℕ) → at l' k ≡ cond (leb from k && ltb k to) none (at l k)
+
+-- of `end` rows the first n can be restored and the others cleared
+pub record Undoable (w : List ℕ) (n end : ℕ) : Type 0 where
+  pub old : n ≤ length w / rowWidth
+  pub all : end ≤ length w / rowWidth
+
+-- they are
+pub record Undone (w : List ℕ) (n end : ℕ) (w' : List ℕ) : Type 0 where
+  pub size : length w' ≡ length w
+  pub rows : (k : ℕ) → k < n → rowAt w' k ≡ restored n (rowAt w k)
+  pub blank : ((k : ℕ) → end ≤ k → rowAt w k ≡ noRow) → (k : ℕ) → n ≤ k → rowAt w' k ≡ noRow
 
 -- ---- things cleared one after the other, in a table of any width
 
@@ -90,6 +103,13 @@ module _ {A B : Type 0} {w : ℕ} {cells : A → List B} {from : List B → ℕ 
           | inr c ↦ inside start k j b c ∙ sym (inside start to j b (omega (arith, c, e .within (omega arith))))
         ]
 
+  module _ (step : List B → ℕ → List B) (is : (l : List B) (k : ℕ) → step l k ≡ put l k none) where
+    pub emptied-all : (l : List B) (start to : ℕ) → to ≤ length l / w → Emptied at none l start to (over step l start to)
+    emptied-all l start to room = elim (le-or-lt start to) [
+      | inl h ↦ emptying-end (over-keeps step l start to h (Emptying at none l start to) emptying-start (λ l' k b e. emptying-next room e b (is l' k))) (omega arith)
+      | inr h ↦ rw (none-over step l start to (omega arith)) (emptying-end emptying-start (omega arith))
+    ]
+
 -- ---- rows released one after the other
 
 pub record Releasing (w : List ℕ) (n : ℕ) (w' : List ℕ) (k : ℕ) : Type 0 where
@@ -126,23 +146,25 @@ module _ {w : List ℕ} {n : ℕ} where
 
 -- ---- both
 
-module _ {w a b : List ℕ} {n end : ℕ} where
-  pub undo-done : Released w n a → Emptied rowAt noRow a n end b → Undone w n end b
-  undo-done r e = record {
-    size = e .size ∙ r .size;
-    rows = λ k h. e .things k ∙ rw (outside n end k (λ c d. omega arith)) (r .rows k ∙ rw (lt-ltb k n h));
-    blank = λ z k h. elim (le-or-lt end k) [
-      | inr l ↦ e .things k ∙ rw (inside n end k h l)
-      | inl l ↦ e .things k ∙ rw (outside n end k (λ c d. omega arith)) (r .rows k ∙ rw (le-ltb k n h) (z k l))
-    ];
-  }
+module _ {w : List ℕ} {n end : ℕ} (u : Undoable w n end) where
+  released-right : Released w n (released w n)
+  released-right = releasing-end (over-keeps (withRestored n) w 0 n (omega arith) (Releasing w n) releasing-start (λ l k h x. releasing-next (u .old) x h refl)) (omega arith)
 
-pub ruleset restoring = (restored-kept, restored-child)
+  emptied-right : Emptied rowAt noRow (released w n) n end (undone w n end)
+  emptied-right = emptied-all rows withoutRow (λ l k. refl) (released w n) n end (rw (released-right .size) (u .all))
 
-pub ruleset releasing = (releasing-start, releasing-next, releasing-end)
+  pub undone-right : {w' : List ℕ} → w' ≡ undone w n end → Undone w n end w'
+  undone-right e = rw e (both released-right emptied-right)
+    where
+      both : {a b : List ℕ} → Released w n a → Emptied rowAt noRow a n end b → Undone w n end b
+      both r e = record {
+        size = e .size ∙ r .size;
+        rows = λ k h. e .things k ∙ rw (outside n end k (λ c d. omega arith)) (r .rows k ∙ rw (lt-ltb k n h));
+        blank = λ z k h. elim (le-or-lt end k) [
+          | inr l ↦ e .things k ∙ rw (inside n end k h l)
+          | inl l ↦ e .things k ∙ rw (outside n end k (λ c d. omega arith)) (r .rows k ∙ rw (le-ltb k n h) (z k l))
+        ];
+      }
 
-pub ruleset emptyingRows = (emptying-start, emptying-next, emptying-end, rows)
-
-pub ruleset emptyingRecords = (emptying-start, emptying-next, emptying-end, records)
-
-pub ruleset undoing = (undo-done)
+pub records-emptied : {r r' : List ℕ} {from to : ℕ} → to ≤ length r / recordWidth → r' ≡ emptiedRecords r from to → Emptied recordAt noRecord r from to r'
+records-emptied {r} {from = from} {to = to} h e = rw e (emptied-all records withoutRecord (λ l k. refl) r from to h)

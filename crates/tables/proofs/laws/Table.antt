@@ -78,3 +78,7 @@ module _ {A B : Type 0} {w : ℕ} {cells : A → List B} {from : List B → ℕ 
         beside (less b) = part-before (cells x) l (w * k) (w * j) w (before w j k b)
         beside (equal e) = absurd (o e)
         beside (more b) = rw (drop-after (cells x) l (w * k) (w * j) (rw (t .length-cells x) (before w k j b)))
+
+-- an item put into what is left of a table, where both are known by other names
+pub put-on : {L X : Type 0} (put : L → ℕ → X → L) {n : ℕ} {l l' t : L} {x x' : X} → t ≡ put l n x → l ≡ l' → x ≡ x' → t ≡ put l' n x'
+put-on put {n} e f g = e ∙ (λ i. put (f i) n (g i))

@@ -1,6 +1,6 @@
 use mathlib.Core.Path.{refl}
 use Rattle.closure.specs.State.{rowPushed}
-use Rattle.closure.proofs.laws.Tables.{put-on}
+use Rattle.tables.proofs.laws.Table.{put-on}
 use borrow.Author.Needs.{needs}
 use Rattle.closure.proofs.build.index_standing.Statement.{statement}
 use Rattle.closure.proofs.build.index_standing.Tie as tie

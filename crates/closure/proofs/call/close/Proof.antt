@@ -1,5 +1,5 @@
 use borrow.Author.Needs.{needs}
-use Rattle.closure.proofs.laws.Call.{close-undo, close-finish, close-full, closing}
+use Rattle.closure.proofs.laws.Call.{close-finish, close-full, closing}
 use Rattle.closure.proofs.call.close.Statement.{statement}
 use Rattle.closure.proofs.call.close.Tie as tie
 
@@ -16,7 +16,7 @@ enum-known-step : tie.Need-enum-known-step
 enum-known-step c = search needs
 
 undo-requires : tie.Need-undo-requires
-undo-requires c κs = close-undo (c .before .before .before .before .before .before .before .before .before .before .before .before .before .before .before .before .before .before .before .before .before .before .before .before .before .before .pre) (c .before .before .before .before .before .before .before .before .before .before .before .before .before .before .before .before .before .before .before .before .room .ensures) (c .before .before .before .before .before .before .before .before .before .before .before .refine-marks .ensures) (c .before .before .before .step .given .1)
+undo-requires c κs = search needs
 
 enum-known-step-2 : tie.Need-enum-known-step-2
 enum-known-step-2 c = search needs

@@ -1,5 +1,5 @@
 use mathlib.Core.Path.{refl}
-use Rattle.closure.proofs.laws.Tables.{put-on}
+use Rattle.tables.proofs.laws.Table.{put-on}
 use borrow.Author.Needs.{needs}
 use Rattle.chain.specs.Chain.{pushed}
 use Rattle.closure.specs.State.{linksAt, cornersPushed}

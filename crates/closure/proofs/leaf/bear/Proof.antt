@@ -1,7 +1,7 @@
 use mathlib.Core.Path.{refl}
 use Rattle.tables.specs.Layout.{putRow}
 use Rattle.closure.specs.State.{rowPushed}
-use Rattle.closure.proofs.laws.Tables.{put-on}
+use Rattle.tables.proofs.laws.Table.{put-on}
 use borrow.Author.Needs.{needs}
 use Rattle.closure.proofs.leaf.bear.Statement.{statement}
 use Rattle.closure.proofs.leaf.bear.Tie as tie

@@ -1,0 +1,47 @@
+use Prim.Native.Nat.{_-_}
+use borrow.Author.Needs.{needs}
+use Rattle.frame.specs.Undo.{withoutRow}
+use Rattle.frame.proofs.laws.Steps.{Stepping, stepping}
+use Rattle.frame.proofs.undo.clear_rows.Statement.{statement}
+use Rattle.frame.proofs.undo.clear_rows.Tie as tie
+
+abbrev Inv-loop : tie.InvT-loop
+Inv-loop rows₀ from to k₀ rows k = Stepping withoutRow rows₀ from to rows k
+
+abbrev μ-loop : tie.MeasureT-loop
+μ-loop rows₀ from to k₀ rows k = to - k
+
+loop-holds : tie.Need-loop-holds Inv-loop μ-loop
+loop-holds c = search (stepping, needs)
+
+clear-row-requires : tie.Need-clear-row-requires Inv-loop μ-loop
+clear-row-requires c κs = search (stepping, needs)
+
+add-k : tie.Need-add-k Inv-loop μ-loop
+add-k c = search (stepping, needs)
+
+loop-less : tie.Need-loop-less Inv-loop μ-loop
+loop-less c = search (stepping, needs)
+
+loop-again : tie.Need-loop-again Inv-loop μ-loop
+loop-again c = search (stepping, needs)
+
+same-length : tie.Need-same-length Inv-loop μ-loop
+same-length c = search (stepping, needs)
+
+returns : tie.Need-returns Inv-loop μ-loop
+returns c = search (stepping, needs)
+
+pub clear-rows-spec : {M : Type 1} → statement M
+clear-rows-spec =
+    tie.close
+    (tie.spec
+    Inv-loop
+    μ-loop
+    loop-holds
+    clear-row-requires
+    add-k
+    loop-less
+    loop-again
+    same-length
+    returns)
