@@ -1,6 +1,6 @@
 // Root by root.
 use crate::walk::list_from;
-use crate::walk::wide;
+use chain::wide;
 ghost use Rattle.leaves.specs.Listing.{treeOf, treesBelow};
 ghost use Rattle.leaves.specs.Walk.{rowsIn, Rooted, Stores, Listable};
 

@@ -1,15 +1,9 @@
 // One root's tree, by recursion (document 01, "What comes back": the first child's side before the second's).
+use chain::wide;
 ghost use mathlib.Core.Path.{_≡_};
 ghost use lib.ListN.{set};
 ghost use Rattle.leaves.specs.Listing.{levelOf};
 ghost use Rattle.leaves.specs.Walk.{below, Low, Walkable, Stores, StoresOne};
-
-// A number of a table as an index.
-pub fn wide(x: u32) -> usize
-    ensures { λ r. ⌜ r ≡ x ⌝ }
-{
-    x as usize
-}
 
 // The level of a depth (document 01, "What comes back").
 fn level(depth: u32) -> u32

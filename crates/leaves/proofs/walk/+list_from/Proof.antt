@@ -8,7 +8,7 @@ use Rattle.leaves.proofs.walk.list_from.Reads as list-from
 use Rattle.leaves.proofs.walk.list_from.Kinds as list-from-kinds
 use Rattle.leaves.proofs.walk.+list_from.Lts-list_from as list-from-lts
 use Rattle.leaves.proofs.walk.list_leaf.Reads as list-leaf-reads
-use Rattle.leaves.proofs.walk.wide.Reads as wide-reads
+use Rattle.chain.proofs.wide.Reads as wide-reads
 use Rattle.tables.proofs.row.read.Reads as read-reads
 use Rattle.leaves.proofs.walk.+list_from.{statement}
 use Rattle.leaves.proofs.walk.+list_from.Tie.{close}
