@@ -1,4 +1,3 @@
 pub mod laws
-pub mod Inverse
 pub mod Prefix
 pub mod Determined

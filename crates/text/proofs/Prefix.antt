@@ -9,16 +9,15 @@ use lib.Dec.{ltb, eqb}
 use lib.Ieee.{binary64, ofBits}
 use lib.ListN.{length, take, length-append}
 use lib.Seq.{take-append-le, take-append-add, length-take-le}
-use Rattle.text.specs.declared.line.Line.{Line}
-use Rattle.text.specs.declared.line.Line.the-variants as line
-use Rattle.text.specs.Digits.{decimal, sixteen}
-use Rattle.text.specs.Field.{parts}
+use Rattle.fields.specs.declared.line.Line.{Line}
+use Rattle.fields.specs.declared.line.Line.the-variants as line
+use Rattle.fields.specs.Digits.{decimal, sixteen}
+use Rattle.fields.specs.Field.{parts, tabbed}
 use Rattle.text.specs.Program.{Program}
 use Rattle.text.specs.Input.{Input, nothing, Taken, taken, fault, takes, refused, readFrom, readAll}
-use Rattle.text.specs.Line.{lineOf}
-use Rattle.text.specs.Output.{tabbed}
-use Rattle.text.proofs.Inverse.{Free, bare, more, parts-free, parts-split, Some, some, some-parts, Written, line-written, length-sixteen, decimal-length}
-use Rattle.text.proofs.Inverse as inverse
+use Rattle.fields.specs.Line.{lineOf}
+use Rattle.fields.proofs.Inverse.{Free, bare, more, parts-free, parts-split, Some, some, some-parts, Written, line-written, length-sixteen, decimal-length}
+use Rattle.fields.proofs.Inverse as inverse
 
 -- ---- a text by its lines
 

@@ -1,6 +1,3 @@
-pub mod Reading
-pub mod Fields
-pub mod Lines
 pub mod Input
 pub mod Loop
 pub mod Putting

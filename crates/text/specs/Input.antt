@@ -5,10 +5,10 @@ use Prim.Native.Nat.{ℕ, suc, _+_}
 use lib.Dec.{ltb, eqb}
 use lib.ListN.{length}
 use lib.Ieee.{Float}
-use Rattle.text.specs.declared.line.Line.{Line}
-use Rattle.text.specs.declared.line.Line.the-variants as line
-use Rattle.text.specs.Field.{parts}
-use Rattle.text.specs.Line.{lineOf}
+use Rattle.fields.specs.declared.line.Line.{Line}
+use Rattle.fields.specs.declared.line.Line.the-variants as line
+use Rattle.fields.specs.Field.{parts}
+use Rattle.fields.specs.Line.{lineOf}
 
 -- what the V, T and M lines give: three floats a vertex, four numbers an element, a row a mark
 pub record Input : Type 0 where

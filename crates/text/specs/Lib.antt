@@ -1,6 +1,3 @@
-pub mod Digits
-pub mod Field
-pub mod Line
 pub mod Input
 pub mod Output
 pub mod Reading

@@ -9,12 +9,8 @@ use Rattle.split.specs.declared.row.Row.{Row}
 use Rattle.split.specs.declared.point.Point.{Point}
 use Rattle.tables.specs.declared.record.Record.{Record}
 use Rattle.tables.specs.Layout.{pointAt, recordAt, rowAt}
-use Rattle.text.specs.Digits.{decimal, sixteen}
-
--- a tab before each field
-unfoldable pub tabbed : List (List ℕ) → List ℕ
-tabbed [] = []
-tabbed (f ∷ fs) = (9 ∷ f) ++ tabbed fs
+use Rattle.fields.specs.Digits.{decimal, sixteen}
+use Rattle.fields.specs.Field.{tabbed}
 
 -- a letter, fields parted by one tab, and a line feed
 abbrev pub written : ℕ → List (List ℕ) → List ℕ

@@ -4,8 +4,8 @@ use mathlib.Core.List.{List, [], _∷_}
 use Prim.Native.Nat.{ℕ, suc, _≤_, _<_}
 use lib.ListN.{length, take, drop}
 use lib.Ieee.{Float}
-use Rattle.text.specs.declared.line.Line.{Line}
-use Rattle.text.specs.declared.line.Line.the-variants.{Vertex, Element, Mark}
+use Rattle.fields.specs.declared.line.Line.{Line}
+use Rattle.fields.specs.declared.line.Line.the-variants.{Vertex, Element, Mark}
 use Rattle.text.specs.declared.input.Used.{Used}
 use Rattle.text.specs.declared.input.Step.{Step}
 use Rattle.text.specs.declared.input.Step.the-variants as step
@@ -13,7 +13,7 @@ use Rattle.text.specs.declared.input.Turn.{Turn}
 use Rattle.text.specs.declared.input.Turn.the-variants as turn
 use Rattle.text.specs.declared.input.Read.{Read}
 use Rattle.text.specs.declared.input.Read.the-variants as read
-use Rattle.text.specs.Field.{parts}
+use Rattle.fields.specs.Field.{parts}
 use Rattle.text.specs.Input.{Input, input, Taken, taken, fault, takes, Reading, all, refused, readFrom, readAll}
 
 -- what the filled parts of the lists hold

@@ -1,7 +1,7 @@
 // All of the input: lines in order, the first bad line ends it.
-use crate::field::stop;
-use crate::line::Line;
-use crate::line::read_line;
+use fields::Line;
+use fields::read_line;
+use fields::stop;
 ghost use Rattle.text.specs.Reading.{inputOf, Fits, Sized, TakesVertex, TakesElement, TakesMark, Takes, Ready, Turns, Reads};
 
 pub const LINE_FEED: u8 = 10;

@@ -1,9 +1,6 @@
 // The text that the program reads and writes (document 01, "The program").
 mod answer;
-mod digits;
-mod field;
 mod input;
-mod line;
 mod mesh;
 mod print;
 mod put;

@@ -1,14 +1,14 @@
 // Writing into the lent buffer: digits, numbers, floats, each field after a tab.
 use crate::SIZE;
-use crate::digits::bits;
-use crate::field::TAB;
+use fields::TAB;
+use fields::bits;
 use split::point::Point;
 ghost use mathlib.Core.Path.{_≡_};
 ghost use mathlib.Core.List.{[], _∷_};
 ghost use Prim.Native.Nat.{_<_};
 ghost use lib.Ieee.{binary64, toBits};
-ghost use Rattle.text.specs.Digits.{glyph as Digits·glyph, spelled, decimal, sixteen};
-ghost use Rattle.text.specs.Output.{tabbed};
+ghost use Rattle.fields.specs.Digits.{glyph as Digits·glyph, spelled, decimal, sixteen};
+ghost use Rattle.fields.specs.Field.{tabbed};
 ghost use Rattle.text.specs.Putting.{Room, Puts, Spells};
 
 pub fn put(out: &mut [u8; SIZE], at: usize, x: u8) -> usize

@@ -9,8 +9,8 @@ use borrow.Author.Tests.{lt-ltb, le-ltb, eq-eqb, ne-eqb}
 use lib.ListN.{length, take, drop, set, length-set, length-append}
 use lib.Seq.{sets, sets-eq, take-at, length-take-le, drop-cons, drop-length, drop-drop}
 use lib.Ieee.{Float}
-use Rattle.text.specs.declared.line.Line.{Line}
-use Rattle.text.specs.declared.line.Line.the-variants as line
+use Rattle.fields.specs.declared.line.Line.{Line}
+use Rattle.fields.specs.declared.line.Line.the-variants as line
 use Rattle.text.specs.declared.input.Used.{Used}
 use Rattle.text.specs.declared.input.Step.{Step}
 use Rattle.text.specs.declared.input.Step.the-variants as step

@@ -9,7 +9,7 @@ use borrow.Author.Tests.{eq-eqb, ne-eqb}
 use lib.ListN.{length, take, drop, length-drop}
 use lib.Seq.{drop-drop, drop-length}
 use lib.Ieee.{Float}
-use Rattle.text.specs.declared.line.Line.{Line}
+use Rattle.fields.specs.declared.line.Line.{Line}
 use Rattle.text.specs.declared.input.Used.{Used}
 use Rattle.text.specs.declared.input.Step.{Step}
 use Rattle.text.specs.declared.input.Step.the-variants as step
@@ -17,11 +17,11 @@ use Rattle.text.specs.declared.input.Turn.{Turn}
 use Rattle.text.specs.declared.input.Turn.the-variants as turn
 use Rattle.text.specs.declared.input.Read.{Read}
 use Rattle.text.specs.declared.input.Read.the-variants as read
-use Rattle.text.specs.Field.{parts, before, stopOf, Inside}
-use Rattle.text.specs.Line.{lineOf}
+use Rattle.fields.specs.Field.{parts, before, stopOf}
+use Rattle.fields.specs.Line.{lineOf}
 use Rattle.text.specs.Input.{Input, Taken, taken, fault, takes, Reading, all, refused, readFrom, readAll}
 use Rattle.text.specs.Reading.{inputOf, Fits, Sized, Takes, Ready, Turns, Reads}
-use Rattle.text.proofs.laws.Fields.{parts-some, parts-more, parts-last, parts-none, part, part-order, part-fits}
+use Rattle.fields.proofs.laws.Fields.{Inside, parts-some, parts-more, parts-last, parts-none, part, part-order, part-fits}
 
 -- ---- the definition, line by line
 

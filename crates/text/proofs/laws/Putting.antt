@@ -15,8 +15,9 @@ use Rattle.split.specs.declared.row.Row.{Row}
 use Rattle.split.specs.declared.point.Point.{Point}
 use Rattle.tables.specs.declared.record.Record.{Record}
 use Rattle.tables.specs.Layout.{rowAt}
-use Rattle.text.specs.Digits.{glyph, spelled, decimal, sixteen}
-use Rattle.text.specs.Output.{tabbed, written, cLine, pLine, lLine, rootFrom, rootOf}
+use Rattle.fields.specs.Digits.{glyph, spelled, decimal, sixteen}
+use Rattle.fields.specs.Field.{tabbed}
+use Rattle.text.specs.Output.{written, cLine, pLine, lLine, rootFrom, rootOf}
 use Rattle.text.specs.Putting.{Room, Puts, Spells}
 
 pub puts-both : {w v : ℕ} {o o₁ o₂ : List ℕ} {at e f : ℕ} {a b : List ℕ} → Puts w o at a o₁ e → Puts v o₁ e b o₂ f → Puts (w + v) o at (a ++ b) o₂ f
