@@ -11,6 +11,7 @@ pub mod Earlier
 pub mod Faces
 pub mod Uses
 pub mod Indexing
+pub mod Sifting
 pub mod Free
 pub mod Colours
 pub mod Proper

@@ -1,10 +1,10 @@
 -- The scratch table while opening looks at the input: heads, links, counts of uses and colours, and what each step keeps true of them. Nothing here is promised to callers.
 use mathlib.Core.Path.{_≡_}
-use mathlib.Core.Bool.{Bool, true, false, _&&_, cond}
+use mathlib.Core.Bool.{Bool, true, false, _&&_, _||_, cond}
 use mathlib.Core.Logic.{_⊎_}
 use mathlib.Core.List.{List}
 use Prim.Native.Nat.{ℕ, zero, suc, _+_, _*_, _/_, _≤_, _<_}
-use lib.Dec.{eqb, ltb}
+use lib.Dec.{eqb, ltb, leb}
 use lib.ListN.{length, getD, set, replicate}
 use lib.Ieee.{Float}
 use Rattle.chain.specs.Chain.{Indexed}
@@ -12,9 +12,11 @@ use Rattle.opening.specs.declared.answer.Found.{Found}
 use Rattle.opening.specs.declared.answer.Found.the-variants.{Nowhere}
 use Rattle.opening.specs.declared.answer.Verdict.{Verdict}
 use Rattle.opening.specs.declared.answer.Verdict.the-variants.{Passed}
-use Rattle.opening.specs.Opening.{late, judged}
-use Rattle.opening.specs.Search.{first}
-use Rattle.opening.specs.Causes.{vertex}
+use Rattle.opening.specs.declared.faces.Seen.{Seen}
+use Rattle.opening.specs.declared.faces.Met.{Met}
+use Rattle.opening.specs.Opening.{at, late, judged}
+use Rattle.opening.specs.Search.{first, count}
+use Rattle.opening.specs.Causes.{vertex, has, before, same, third}
 use Rattle.opening.specs.Colours.{taken, colours, colourOf, garish}
 
 abbrev pub linksAt : ℕ
@@ -57,6 +59,12 @@ pub record Ready (E scratch : List ℕ) : Type 0 where
   pub size : length scratch ≡ scratchLength
   pub index : Indexed (slot E) (length E) linksAt scratch
 
+-- the first n corner slots are in the index, and the colours are untouched
+pub record Filled (E : List ℕ) (n : ℕ) (scratch : List ℕ) : Type 0 where
+  pub size : length scratch ≡ scratchLength
+  pub index : Indexed (slot E) n linksAt scratch
+  pub clear : (u : ℕ) → getD scratch (coloursAt + u) 0 ≡ 0
+
 -- there is a count of uses for v, and one more is a u32
 abbrev pub countable : List ℕ → ℕ → Bool
 countable scratch v = ltb (usesAt + v) coloursAt && (ltb (usesAt + v) (length scratch) && ltb (getD scratch (usesAt + v) 0) 4294967295)
@@ -69,6 +77,60 @@ bumped scratch v = cond (countable scratch v) (set scratch (usesAt + v) (getD sc
 pub record Chosen (p q r : ℕ) : Type 0 where
   pub low : r < 4
   pub one : (r ≡ p) ⊎ (r ≡ q)
+
+-- a place of an element other than m
+pub record Other (m r : ℕ) : Type 0 where
+  pub low : r < 4
+  pub apart : r ≡ m → ⊥
+
+-- counts that one more element leaves in range
+pub record Few (s : Seen) : Type 0 where
+  pub all : s .all ≤ 400000
+  pub ab : s .ab ≤ 400000
+  pub ac : s .ac ≤ 400000
+  pub bc : s .bc ≤ 400000
+
+-- 1 where the test holds
+abbrev pub one : Bool → ℕ
+one t = cond t 1 0
+
+-- r says whether element k holds v
+pub record Held (E : List ℕ) (k v r : ℕ) : Type 0 where
+  pub is : r ≡ one (has E k v)
+  pub small : r ≤ 1
+
+-- one element more, which holds a, b, c or not
+unfoldable pub noted : Bool → Bool → Bool → Seen → Seen
+noted a b c s = record { all = s .all + one (a && (b && c)); ab = s .ab + one (a && b); ac = s .ac + one (a && c); bc = s .bc + one (b && c) }
+
+-- what the elements before k that hold v hold of a, b and c
+pub record Counted (E : List ℕ) (k v a b c : ℕ) (s : Seen) : Type 0 where
+  pub all : s .all ≡ count (λ j. has E j v && (has E j a && (has E j b && has E j c))) k
+  pub ab : s .ab ≡ before E k v a b
+  pub ac : s .ac ≡ before E k v a c
+  pub bc : s .bc ≡ before E k v b c
+
+-- two of them hold the same two of a, b and c
+unfoldable pub crowd : Seen → Bool
+crowd s = ltb 1 (s .ab) || (ltb 1 (s .ac) || ltb 1 (s .bc))
+
+-- how many elements before k hold its face opposite to place o
+unfoldable pub opposite : List ℕ → ℕ → ℕ → ℕ
+opposite E k zero = before E k (vertex E k 1) (vertex E k 2) (vertex E k 3)
+opposite E k (suc zero) = before E k (vertex E k 0) (vertex E k 2) (vertex E k 3)
+opposite E k (suc (suc zero)) = before E k (vertex E k 0) (vertex E k 1) (vertex E k 3)
+opposite E k (suc (suc (suc o))) = before E k (vertex E k 0) (vertex E k 1) (vertex E k 2)
+
+-- number 6 at element k, and number 7 as its faces at place m have it
+pub record Around (E : List ℕ) (k m : ℕ) (r : Met) : Type 0 where
+  pub same : r .same ≡ same E k
+  pub some : r .third ≡ true → third E k ≡ true
+  pub none : r .third ≡ false → (o : ℕ) → o < 4 → (o ≡ m → ⊥) → leb 2 (opposite E k o) ≡ false
+
+-- numbers 6 and 7 at element k
+pub record Meets (E : List ℕ) (k : ℕ) (r : Met) : Type 0 where
+  pub same : r .same ≡ same E k
+  pub third : r .third ≡ third E k
 
 -- the colours of the first v vertices stand in the scratch table and zeros after them, and none is over 63
 pub record Painted (E : List ℕ) (v : ℕ) (scratch : List ℕ) : Type 0 where
@@ -102,6 +164,12 @@ pub record Coloured (vertices : ℕ) (E : List ℕ) (r : Found) (scratch : List 
   pub answer : r ≡ first (garish E) vertices
   pub size : length scratch ≡ scratchLength
   pub painted : r ≡ Nowhere → Painted E vertices scratch
+
+-- the verdict of tests 6 and 7; where they pass, every corner slot is in the index
+pub record Sifted (E : List ℕ) (r : Verdict) (scratch : List ℕ) : Type 0 where
+  pub answer : r ≡ at (first (same E) (length E / 4)) 6 (at (first (third E) (length E / 4)) 7 Passed)
+  pub size : length scratch ≡ scratchLength
+  pub filled : r ≡ Passed → Filled E (length E) scratch
 
 -- the verdict of tests 6 to 8; where they pass, all colours stand in the scratch table
 pub record Judged (vertices : ℕ) (E : List ℕ) (r : Verdict) (scratch : List ℕ) : Type 0 where

@@ -1,5 +1,4 @@
-// Numbers 6 and 7 through the index: the same four vertices before, a face in two elements before.
-use crate::answer::Found;
+// Numbers 6 and 7 at one element, through the index of the elements before it: the same four vertices before, a face in two elements before.
 use crate::elements::vertex_at;
 use crate::elements::wide;
 use crate::index::COLOURS;
@@ -7,67 +6,95 @@ use crate::index::LINKS;
 use crate::index::SCRATCH;
 use crate::index::USES;
 ghost use mathlib.Core.Path.{_≡_};
-ghost use mathlib.Core.Bool.{_&&_};
-ghost use Prim.Native.Nat.{ℕ, _*_, _/_, _<_, _+_};
-ghost use lib.Dec.{leb};
-ghost use lib.ListN.{length, getD};
-ghost use Rattle.opening.specs.Causes.{vertex, has, before, same, third};
-ghost use Rattle.opening.specs.Search.{first, count};
-ghost use Rattle.opening.specs.Scratch.{Plain, Ready, Chosen};
+ghost use Prim.Native.Nat.{_*_, _/_, _<_, _+_};
+ghost use lib.ListN.{length};
+ghost use Rattle.opening.specs.Causes.{has};
+ghost use Rattle.opening.specs.Scratch.{Plain, Filled, Chosen, Other, Held, Few, noted, Counted, crowd, Around, Meets};
 
-pub fn holds(elements: &[u32], k: usize, v: usize) -> bool
+// Of the elements that hold a vertex: how many hold all of a, b and c, and how many hold two of them.
+pub struct Seen {
+    pub all: usize,
+    pub ab: usize,
+    pub ac: usize,
+    pub bc: usize,
+}
+
+// Whether number 6 is the case at an element, and number 7.
+pub struct Met {
+    pub same: bool,
+    pub third: bool,
+}
+
+// 1 where element k holds v, else 0.
+fn holds(elements: &[u32], k: usize, v: usize) -> usize
     requires { ⌜ 4 * k + 3 < length (now elements) ⌝ }
-    ensures { λ r. ⌜ r ≡ has (now (elements .entry)) k v ⌝ }
+    ensures { λ r. ⌜ Held (now (elements .entry)) k v r ⌝ }
 {
     if vertex_at(elements, k, 0) == v {
-        return true;
+        return 1;
     }
     if vertex_at(elements, k, 1) == v {
-        return true;
+        return 1;
     }
     if vertex_at(elements, k, 2) == v {
-        return true;
+        return 1;
     }
-    vertex_at(elements, k, 3) == v
+    if vertex_at(elements, k, 3) == v {
+        return 1;
+    }
+    0
 }
 
-fn holds_three(elements: &[u32], k: usize, a: usize, b: usize, c: usize) -> bool
-    requires { ⌜ 4 * k + 3 < length (now elements) ⌝ }
-    ensures { λ r. ⌜ r ≡ (has (now (elements .entry)) k a && (has (now (elements .entry)) k b && has (now (elements .entry)) k c)) ⌝ }
+// Element j is seen: which of a, b and c it holds.
+fn note(elements: &[u32], j: usize, a: usize, b: usize, c: usize, s: Seen) -> Seen
+    requires { ⌜ 4 * j + 3 < length (now elements) ⌝ }
+    requires { ⌜ Few s ⌝ }
+    ensures { λ r. ⌜ r ≡ noted (has (now (elements .entry)) j a) (has (now (elements .entry)) j b) (has (now (elements .entry)) j c) s ⌝ }
 {
-    if holds(elements, k, a) {
-        if holds(elements, k, b) {
-            return holds(elements, k, c);
-        }
+    let x = holds(elements, j, a);
+    let y = holds(elements, j, b);
+    let z = holds(elements, j, c);
+    let ab = x * y;
+    let ac = x * z;
+    let bc = y * z;
+    Seen {
+        all: s.all + x * bc,
+        ab: s.ab + ab,
+        ac: s.ac + ac,
+        bc: s.bc + bc,
     }
-    false
 }
 
-// How many elements before that of the slot hold the slot's vertex with a, b and c.
-fn earlier(
+// Walks the chain of v: what the elements before k that hold v hold of a, b and c.
+fn tally(
     elements: &[u32],
     scratch: &[u32],
     vertices: usize,
-    slot: usize,
+    k: usize,
+    v: usize,
     a: usize,
     b: usize,
     c: usize,
-) -> usize
+) -> Seen
     requires { ⌜ Plain vertices (now elements) ⌝ }
-    requires { ⌜ Ready (now elements) (now scratch) ⌝ }
-    requires { ⌜ slot < length (now elements) ⌝ }
-    ensures { λ r. ⌜ r ≡ count (λ (j : ℕ). has (now (elements .entry)) j (getD (now (elements .entry)) slot 0) && (has (now (elements .entry)) j a && (has (now (elements .entry)) j b && has (now (elements .entry)) j c))) (slot / 4) ⌝ }
+    requires { ⌜ Filled (now elements) (4 * k) (now scratch) ⌝ }
+    requires { ⌜ k < length (now elements) / 4 ⌝ }
+    requires { ⌜ v < vertices ⌝ }
+    ensures { λ s. ⌜ Counted (now (elements .entry)) k v a b c s ⌝ }
 {
-    let mut n = 0usize;
-    let mut at = wide(scratch[LINKS + slot]);
+    let mut s = Seen {
+        all: 0,
+        ab: 0,
+        ac: 0,
+        bc: 0,
+    };
+    let mut at = wide(scratch[v]);
     while 0 < at {
         let i = at - 1;
-        if holds_three(elements, i / 4, a, b, c) {
-            n += 1;
-        }
+        s = note(elements, i / 4, a, b, c, s);
         at = wide(scratch[LINKS + i]);
     }
-    n
+    s
 }
 
 // Whether a is used less than b. It only chooses which chain is walked, and any choice is right, so it promises nothing.
@@ -101,92 +128,65 @@ fn rarer(elements: &[u32], scratch: &[u32], k: usize, p: usize, q: usize) -> usi
     p
 }
 
-// Walks the chain of the vertex that is used least, for the other three.
-fn same_before(elements: &[u32], scratch: &[u32], vertices: usize, k: usize) -> bool
-    requires { ⌜ Plain vertices (now elements) ⌝ }
-    requires { ⌜ Ready (now elements) (now scratch) ⌝ }
+// Of the other places of element k than m that whose vertex is used least.
+fn other(elements: &[u32], scratch: &[u32], k: usize, m: usize) -> usize
     requires { ⌜ 4 * k + 3 < length (now elements) ⌝ }
-    ensures { λ r. ⌜ r ≡ same (now (elements .entry)) k ⌝ }
+    requires { ⌜ m < 4 ⌝ }
+    ensures { λ r. ⌜ Other m r ⌝ }
 {
-    let p = rarer(elements, scratch, k, 0, 1);
-    let q = rarer(elements, scratch, k, 2, 3);
-    let m = rarer(elements, scratch, k, p, q);
+    let p = rarer(elements, scratch, k, (m + 1) % 4, (m + 2) % 4);
+    rarer(elements, scratch, k, p, (m + 3) % 4)
+}
+
+// Whether two elements hold the same two of three vertices.
+fn crowded(s: Seen) -> bool
+    ensures { λ r. ⌜ r ≡ crowd s ⌝ }
+{
+    if 1 < s.ab {
+        return true;
+    }
+    if 1 < s.ac {
+        return true;
+    }
+    1 < s.bc
+}
+
+// Number 6 at element k, and number 7 at its three faces that hold the vertex at place m.
+fn around(elements: &[u32], scratch: &[u32], vertices: usize, k: usize, m: usize) -> Met
+    requires { ⌜ Plain vertices (now elements) ⌝ }
+    requires { ⌜ Filled (now elements) (4 * k) (now scratch) ⌝ }
+    requires { ⌜ k < length (now elements) / 4 ⌝ }
+    requires { ⌜ m < 4 ⌝ }
+    ensures { λ r. ⌜ Around (now (elements .entry)) k m r ⌝ }
+{
+    let v = vertex_at(elements, k, m);
     let a = vertex_at(elements, k, (m + 1) % 4);
     let b = vertex_at(elements, k, (m + 2) % 4);
     let c = vertex_at(elements, k, (m + 3) % 4);
-    0 < earlier(elements, scratch, vertices, 4 * k + m, a, b, c)
+    let s = tally(elements, scratch, vertices, k, v, a, b, c);
+    Met {
+        same: 0 < s.all,
+        third: crowded(s),
+    }
 }
 
-pub fn first_same(elements: &[u32], scratch: &[u32], vertices: usize) -> Found
+// Numbers 6 and 7 at element k: the chain of the vertex that is used least has all but the face opposite to it, and that of any other vertex has this face.
+pub fn meets(elements: &[u32], scratch: &[u32], vertices: usize, k: usize) -> Met
     requires { ⌜ Plain vertices (now elements) ⌝ }
-    requires { ⌜ Ready (now elements) (now scratch) ⌝ }
-    ensures { λ r. ⌜ r ≡ first (same (now (elements .entry))) (length (now (elements .entry)) / 4) ⌝ }
+    requires { ⌜ Filled (now elements) (4 * k) (now scratch) ⌝ }
+    requires { ⌜ k < length (now elements) / 4 ⌝ }
+    ensures { λ r. ⌜ Meets (now (elements .entry)) k r ⌝ }
 {
-    let n = elements.len() / 4;
-    let mut k = 0usize;
-    while k < n {
-        if same_before(elements, scratch, vertices, k) {
-            return Found::At(k);
-        }
-        k += 1;
+    let m = rarer(elements, scratch, k, 0, other(elements, scratch, k, 0));
+    let near = around(elements, scratch, vertices, k, m);
+    if near.third {
+        return near;
     }
-    Found::Nowhere
-}
-
-// Whether two elements before k hold its face of the places p, q and r: walks the chain of the vertex that is used least.
-fn face_before(
-    elements: &[u32],
-    scratch: &[u32],
-    vertices: usize,
-    k: usize,
-    p: usize,
-    q: usize,
-    r: usize,
-) -> bool
-    requires { ⌜ Plain vertices (now elements) ⌝ }
-    requires { ⌜ Ready (now elements) (now scratch) ⌝ }
-    requires { ⌜ 4 * k + 3 < length (now elements) ⌝ }
-    requires { ⌜ (p < 4) × ((q < 4) × (r < 4)) ⌝ }
-    ensures { λ b. ⌜ b ≡ leb 2 (before (now (elements .entry)) k (vertex (now (elements .entry)) k p) (vertex (now (elements .entry)) k q) (vertex (now (elements .entry)) k r)) ⌝ }
-{
-    let l = rarer(elements, scratch, k, p, q);
-    let m = rarer(elements, scratch, k, l, r);
-    let a = vertex_at(elements, k, p);
-    let b = vertex_at(elements, k, q);
-    let c = vertex_at(elements, k, r);
-    1 < earlier(elements, scratch, vertices, 4 * k + m, a, b, c)
-}
-
-fn third_before(elements: &[u32], scratch: &[u32], vertices: usize, k: usize) -> bool
-    requires { ⌜ Plain vertices (now elements) ⌝ }
-    requires { ⌜ Ready (now elements) (now scratch) ⌝ }
-    requires { ⌜ 4 * k + 3 < length (now elements) ⌝ }
-    ensures { λ r. ⌜ r ≡ third (now (elements .entry)) k ⌝ }
-{
-    if face_before(elements, scratch, vertices, k, 0, 1, 2) {
-        return true;
-    }
-    if face_before(elements, scratch, vertices, k, 0, 1, 3) {
-        return true;
-    }
-    if face_before(elements, scratch, vertices, k, 0, 2, 3) {
-        return true;
-    }
-    face_before(elements, scratch, vertices, k, 1, 2, 3)
-}
-
-pub fn first_third(elements: &[u32], scratch: &[u32], vertices: usize) -> Found
-    requires { ⌜ Plain vertices (now elements) ⌝ }
-    requires { ⌜ Ready (now elements) (now scratch) ⌝ }
-    ensures { λ r. ⌜ r ≡ first (third (now (elements .entry))) (length (now (elements .entry)) / 4) ⌝ }
-{
-    let n = elements.len() / 4;
-    let mut k = 0usize;
-    while k < n {
-        if third_before(elements, scratch, vertices, k) {
-            return Found::At(k);
-        }
-        k += 1;
-    }
-    Found::Nowhere
+    around(
+        elements,
+        scratch,
+        vertices,
+        k,
+        other(elements, scratch, k, m),
+    )
 }

@@ -2,7 +2,9 @@
 
 use crate::elements::wide;
 ghost use mathlib.Core.Path.{_≡_};
-ghost use Rattle.opening.specs.Scratch.{Blank, Plain, Ready, Painted, bumped};
+ghost use Prim.Native.Nat.{_*_, _/_, _<_, _+_};
+ghost use lib.ListN.{length};
+ghost use Rattle.opening.specs.Scratch.{Plain, Filled, bumped};
 
 // Where the links, the counts of uses and the colours begin, and the length of the whole.
 pub const LINKS: usize = 20000;
@@ -29,15 +31,16 @@ fn bump(scratch: &mut [u32], v: usize)
     }
 }
 
-pub fn fill(elements: &[u32], vertices: usize, scratch: &mut [u32])
+// Puts the four corners of element k into the index.
+pub fn fill(elements: &[u32], vertices: usize, scratch: &mut [u32], k: usize)
     requires { ⌜ Plain vertices (now elements) ⌝ }
-    requires { ⌜ Blank (now scratch) ⌝ }
-    ensures { λ _. ⌜ Ready (now (elements .entry)) (now (scratch .exit)) ⌝ }
-    ensures { λ _. ⌜ Painted (now (elements .entry)) 0 (now (scratch .exit)) ⌝ }
+    requires { ⌜ Filled (now elements) (4 * k) (now scratch) ⌝ }
+    requires { ⌜ k < length (now elements) / 4 ⌝ }
+    ensures { λ _. ⌜ Filled (now (elements .entry)) (4 * (k + 1)) (now (scratch .exit)) ⌝ }
 {
-    let n = elements.len();
-    let mut i = 0usize;
-    while i < n {
+    let mut i = 4 * k;
+    let end = i + 4;
+    while i < end {
         let v = wide(elements[i]);
         chain::push(scratch, LINKS, i, v);
         bump(scratch, v);

@@ -5,8 +5,7 @@ use crate::colours::colour_all;
 use crate::coordinates::first_unusable;
 use crate::elements::first_double;
 use crate::elements::first_missing;
-use crate::faces::first_same;
-use crate::faces::first_third;
+use crate::faces::meets;
 use crate::index::fill;
 use crate::lengths::input_wrong;
 use crate::lengths::lent_wrong;
@@ -15,8 +14,9 @@ ghost use mathlib.Core.Path.{_≡_};
 ghost use Prim.Native.Nat.{_/_};
 ghost use lib.ListN.{length};
 ghost use Rattle.opening.specs.declared.answer.Verdict.the-variants.{Passed};
+ghost use Rattle.opening.specs.Search.{orAt};
 ghost use Rattle.opening.specs.Opening.{at, fitting, plain};
-ghost use Rattle.opening.specs.Scratch.{Plain, Ready, Painted, Blank, Judged, Settled};
+ghost use Rattle.opening.specs.Scratch.{Plain, Blank, Sifted, Judged, Settled};
 
 // Refused by this number at the place found, else the verdict of what comes next.
 fn verdict_at(found: Found, number: u32, next: Verdict) -> Verdict
@@ -69,19 +69,51 @@ fn judge_numbers(coordinates: &[f64], elements: &[u32]) -> Verdict
     verdict_at(unusable, 3, then)
 }
 
+// What was found, or else place k where the test holds there.
+fn or_at(found: Found, met: bool, k: usize) -> Found
+    ensures { λ r. ⌜ r ≡ orAt found met k ⌝ }
+{
+    if let Found::At(place) = found {
+        return Found::At(place);
+    }
+    if met {
+        return Found::At(k);
+    }
+    Found::Nowhere
+}
+
+// Numbers 6 and 7 in one pass: each element is held against those before it and then put into the index. The first of number 7 is kept until no number 6 has come.
+fn sift(elements: &[u32], vertices: usize, scratch: &mut [u32]) -> Verdict
+    requires { ⌜ Plain vertices (now elements) ⌝ }
+    requires { ⌜ Blank (now scratch) ⌝ }
+    ensures { λ r. ⌜ Sifted (now (elements .entry)) r (now (scratch .exit)) ⌝ }
+{
+    let n = elements.len() / 4;
+    let mut third = Found::Nowhere;
+    let mut k = 0usize;
+    while k < n {
+        let met = meets(elements, scratch, vertices, k);
+        if met.same {
+            return Verdict::Refused {
+                number: 6,
+                place: k,
+            };
+        }
+        third = or_at(third, met.third, k);
+        fill(elements, vertices, scratch, k);
+        k += 1;
+    }
+    verdict_at(third, 7, Verdict::Passed)
+}
+
 fn judge_faces(elements: &[u32], vertices: usize, scratch: &mut [u32]) -> Verdict
     requires { ⌜ Plain vertices (now elements) ⌝ }
-    requires { ⌜ Ready (now elements) (now scratch) ⌝ }
-    requires { ⌜ Painted (now elements) 0 (now scratch) ⌝ }
+    requires { ⌜ Blank (now scratch) ⌝ }
     ensures { λ r. ⌜ Judged vertices (now (elements .entry)) r (now (scratch .exit)) ⌝ }
 {
-    let same = first_same(elements, scratch, vertices);
-    if let Found::At(place) = same {
-        return Verdict::Refused { number: 6, place };
-    }
-    let third = first_third(elements, scratch, vertices);
-    if let Found::At(place) = third {
-        return Verdict::Refused { number: 7, place };
+    let faces = sift(elements, vertices, scratch);
+    if let Verdict::Refused { number, place } = faces {
+        return Verdict::Refused { number, place };
     }
     verdict_at(colour_all(elements, vertices, scratch), 8, Verdict::Passed)
 }
@@ -106,7 +138,5 @@ pub fn judge(
     if let Verdict::Refused { number, place } = numbers {
         return Verdict::Refused { number, place };
     }
-    let vertices = coordinates.len() / 3;
-    fill(elements, vertices, scratch);
-    judge_faces(elements, vertices, scratch)
+    judge_faces(elements, coordinates.len() / 3, scratch)
 }

@@ -1,45 +1,66 @@
--- The walk that counts earlier elements: from the link of slot s down the slots of the same vertex.
+-- The walk that counts earlier elements: down the slots of v before element k, with four counts.
 use mathlib.Core.Path.{_≡_, _∙_}
-use mathlib.Core.Bool.{Bool, _&&_, cond}
+use mathlib.Core.Bool.{Bool, _&&_}
 use mathlib.Core.List.{List}
-use Prim.Native.Nat.{ℕ, _+_, _-_, _/_, _<_, _≤_}
+use Prim.Native.Nat.{ℕ, _+_, _-_, _*_, _/_, _<_, _≤_}
 use native.Mathlib.Omega.{arith}
 use lib.ListN.{length, getD}
 use Rattle.chain.specs.Chain.{latest}
 use Rattle.chain.proofs.laws.Index.{next-link}
 use Rattle.chain.proofs.laws.Walk.{latest-below}
+use Rattle.opening.specs.declared.faces.Seen.{Seen}
 use Rattle.opening.specs.Search.{count}
 use Rattle.opening.specs.Causes.{has}
-use Rattle.opening.specs.Scratch.{linksAt, slot, Plain, Ready}
-use Rattle.opening.proofs.laws.Corners.{slot-visits}
+use Rattle.opening.specs.Scratch.{linksAt, slot, Plain, Filled, one, Few, noted, Counted}
+use Rattle.opening.proofs.laws.Corners.{elements-visits}
 use Rattle.opening.proofs.laws.Walking.{visits-below, Walking, walk-start, walk-key, walk-next, walk-end}
 
--- element j holds a, b and c
+-- element j holds a and b, and c too
+abbrev pub holdsTwo : List ℕ → ℕ → ℕ → ℕ → Bool
+holdsTwo E a b j = has E j a && has E j b
+
 abbrev pub holdsThree : List ℕ → ℕ → ℕ → ℕ → ℕ → Bool
 holdsThree E a b c j = has E j a && (has E j b && has E j c)
 
--- the walk from slot s down counted n elements that hold a, b and c, and goes on at `at`
-abbrev pub Tally : List ℕ → ℕ → ℕ → ℕ → ℕ → ℕ → ℕ → Type 0
-Tally E s a b c n at = Walking (slot E) (slot E s) (λ i. holdsThree E a b c (i / 4)) s n at
+-- the walk counted n elements that pass the test, and goes on at `at`
+abbrev Counting : List ℕ → ℕ → ℕ → (ℕ → Bool) → ℕ → ℕ → Type 0
+Counting E k v P n at = Walking (slot E) v (λ i. P (i / 4)) (4 * k) n at
 
-module _ (E : List ℕ) (s a b c : ℕ) where
-  -- the number stays small
-  pub tally-small : {n at : ℕ} → Tally E s a b c n at → n ≤ s
-  tally-small w = omega (arith, visits-below (slot E) (slot E s) (λ i. holdsThree E a b c (i / 4)) s)
+pub record Tally (E : List ℕ) (k v a b c : ℕ) (s : Seen) (at : ℕ) : Type 0 where
+  pub all : Counting E k v (holdsThree E a b c) (s .all) at
+  pub ab : Counting E k v (holdsTwo E a b) (s .ab) at
+  pub ac : Counting E k v (holdsTwo E a c) (s .ac) at
+  pub bc : Counting E k v (holdsTwo E b c) (s .bc) at
 
-  module _ {vertices : ℕ} {scratch : List ℕ} (given : Plain vertices E × (Ready E scratch × (s < length E))) where
-    -- from the link of the slot, along each link, to the end
-    pub tally-start : {at : ℕ} → at ≡ getD scratch (linksAt + s) 0 → Tally E s a b c 0 at
-    tally-start e = rw (e, given .1 .0 .index .links s (given .1 .1)) (walk-start _ _ _ s)
+module _ {vertices : ℕ} {E scratch : List ℕ} (k v : ℕ) (x : Plain vertices E) (f : Filled E (4 * k) scratch) where
+  link : (P : ℕ → Bool) {n at : ℕ} → Counting E k v P n at → 0 < at → getD scratch (linksAt + (at - 1)) 0 ≡ latest (slot E) v (at - 1)
+  link P w l = next-link (f .index) (omega (arith, w .below)) (walk-key _ _ _ w l)
 
-    follow : {n at : ℕ} → Tally E s a b c n at → 0 < at → getD scratch (linksAt + (at - 1)) 0 ≡ latest (slot E) (slot E s) (at - 1)
-    follow w l = next-link (given .1 .0 .index) (omega arith) (walk-key _ _ _ w l)
+  next : (P : ℕ → Bool) {n at to : ℕ} → Counting E k v P n at → 0 < at → to ≡ getD scratch (linksAt + (at - 1)) 0 → Counting E k v P (n + one (P ((at - 1) / 4))) to
+  next P w l e = rw (e, link P w l) (walk-next _ _ _ w l)
 
-    pub tally-next : {n at m next : ℕ} {t : Bool} → Tally E s a b c n at → 0 < at → t ≡ holdsThree E a b c ((at - 1) / 4) → m ≡ n + cond t 1 0 → next ≡ getD scratch (linksAt + (at - 1)) 0 → Tally E s a b c m next
-    tally-next w l t m e = rw (m, t, e, follow w l) (walk-next _ _ _ w l)
+  few : (P : ℕ → Bool) {n at : ℕ} → k < length E / 4 → Counting E k v P n at → n ≤ 400000
+  few P h w = omega (arith, w .left, visits-below (slot E) v (λ i. P (i / 4)) (4 * k), x .few)
 
-    pub tally-falls : {n at next : ℕ} → Tally E s a b c n at → 0 < at → next ≡ getD scratch (linksAt + (at - 1)) 0 → next < at
-    tally-falls {at = at} w l e = rw (e, follow w l) (omega (arith, latest-below (slot E) (slot E s) (at - 1)))
+  total : (P : ℕ → Bool) {n at : ℕ} → k < length E / 4 → Counting E k v P n at → at ≤ 0 → n ≡ count (λ j. has E j v && P j) k
+  total P h w z = walk-end _ _ _ w (omega arith) ∙ elements-visits x P v k (omega arith)
 
-    pub tally-end : {n at : ℕ} → Tally E s a b c n at → at ≤ 0 → n ≡ count (λ j. has E j (slot E s) && holdsThree E a b c j) (s / 4)
-    tally-end w z = walk-end _ _ _ w (omega arith) ∙ slot-visits (given .0) (holdsThree E a b c) s (given .1 .1)
+  -- from the head, along each link, to the end
+  pub tally-start : {a b c at : ℕ} → v < vertices → at ≡ getD scratch v 0 → Tally E k v a b c (record { all = 0; ab = 0; ac = 0; bc = 0 }) at
+  tally-start h e = rw (e, f .index .heads v (omega (arith, x .most))) (record { all = walk-start _ _ _ _; ab = walk-start _ _ _ _; ac = walk-start _ _ _ _; bc = walk-start _ _ _ _ })
+
+  module _ {a b c at : ℕ} {s : Seen} (t : Tally E k v a b c s at) where
+    pub tally-few : k < length E / 4 → Few s
+    tally-few h = record { all = few (holdsThree E a b c) h (t .all); ab = few (holdsTwo E a b) h (t .ab); ac = few (holdsTwo E a c) h (t .ac); bc = few (holdsTwo E b c) h (t .bc) }
+
+    pub tally-next : {s' : Seen} {to : ℕ} → 0 < at → s' ≡ noted (has E ((at - 1) / 4) a) (has E ((at - 1) / 4) b) (has E ((at - 1) / 4) c) s → to ≡ getD scratch (linksAt + (at - 1)) 0 → Tally E k v a b c s' to
+    unfolding noted
+    tally-next l e g = rw e (record { all = next (holdsThree E a b c) (t .all) l g; ab = next (holdsTwo E a b) (t .ab) l g; ac = next (holdsTwo E a c) (t .ac) l g; bc = next (holdsTwo E b c) (t .bc) l g })
+
+    pub tally-falls : {to : ℕ} → 0 < at → to ≡ getD scratch (linksAt + (at - 1)) 0 → to < at
+    tally-falls l e = rw (e, link (holdsThree E a b c) (t .all) l) (omega (arith, latest-below (slot E) v (at - 1)))
+
+    pub tally-end : k < length E / 4 → at ≤ 0 → Counted E k v a b c s
+    tally-end h z = record { all = total (holdsThree E a b c) h (t .all) z; ab = total (holdsTwo E a b) h (t .ab) z; ac = total (holdsTwo E a c) h (t .ac) z; bc = total (holdsTwo E b c) h (t .bc) z }
+
+pub ruleset tallying = (tally-start, tally-few, tally-next, tally-falls, tally-end)

@@ -13,7 +13,7 @@ use Rattle.opening.specs.declared.answer.Verdict.the-variants.{Refused, 
 use Rattle.opening.specs.Search.{first}
 use Rattle.opening.specs.Causes.{wrongInput, wrongLent, noRoom, unusable, missing, double, same, third}
 use Rattle.opening.specs.Opening.{when, at, fitting, plain, late, judged}
-use Rattle.opening.specs.Scratch.{Blank, Plain, Coloured, Judged, Settled}
+use Rattle.opening.specs.Scratch.{Blank, Plain, Coloured, Sifted, Judged, Settled}
 use Rattle.opening.proofs.laws.Passed.{plain-passed, roomy-passed}
 use Rattle.opening.proofs.laws.Verdicts.{garish-last}
 
@@ -89,14 +89,22 @@ module _ (F : List Float) (E : List ℕ) where
 
 -- ---- tests 6 to 8
 
-pub judged-refused : {vertices n p : ℕ} {E scratch : List ℕ} → late E vertices ≡ Refused n p → length scratch ≡ 460000 → Judged vertices E (Refused n p) scratch
-judged-refused e s = record { answer = sym e; size = s; painted = λ h. clash refl h }
-
-pub judged-coloured : {vertices : ℕ} {E scratch : List ℕ} {f : Found} {r : Verdict} → first (same E) (length E / 4) ≡ Nowhere → first (third E) (length E / 4) ≡ Nowhere
-    → Coloured vertices E f scratch → r ≡ at f 8 Passed → Judged vertices E r scratch
-judged-coloured {vertices} {E} {scratch} {f} a b c e =
+-- the verdict of tests 6 and 7 stands where it refuses
+pub judged-refused : {vertices n p : ℕ} {E scratch : List ℕ} {r : Verdict} → Sifted E r scratch → r ≡ Refused n p → Judged vertices E (Refused n p) scratch
+unfolding late
+judged-refused {vertices} {n} {p} {E} s e =
     record {
-      answer = e ∙ rw (c .answer) (sym (garish-last E vertices a b));
+      answer = sym (at-refused (first (same E) (length E / 4)) 6 _ _ n p (at-refused (first (third E) (length E / 4)) 7 Passed _ n p (λ h. clash h refl)) (sym (s .answer) ∙ e));
+      size = s .size;
+      painted = λ h. clash refl h;
+    }
+
+-- and number 8 is next where they pass
+pub judged-coloured : {vertices : ℕ} {E old scratch : List ℕ} {f : Found} {q r : Verdict} → Sifted E q old → q ≡ Passed → Coloured vertices E f scratch → r ≡ at f 8 Passed → Judged vertices E r scratch
+judged-coloured {vertices} {E} {f = f} s p c e =
+    let (a, b) = at-passed (first (same E) (length E / 4)) 6 (at (first (third E) (length E / 4)) 7 Passed) (sym (s .answer) ∙ p) in
+    record {
+      answer = e ∙ rw (c .answer) (sym (garish-last E vertices a (at-passed (first (third E) (length E / 4)) 7 Passed b .0)));
       size = c .size;
       painted = λ h. c .painted (at-passed f 8 Passed (sym e ∙ h) .0);
     }

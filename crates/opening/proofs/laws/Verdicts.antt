@@ -4,7 +4,7 @@ use mathlib.Core.Bool.{true, false}
 use mathlib.Core.List.{List}
 use Prim.Native.Nat.{ℕ, _/_}
 use lib.ListN.{length}
-use Rattle.opening.specs.declared.answer.Found.the-variants.{At, Nowhere}
+use Rattle.opening.specs.declared.answer.Found.the-variants.{Nowhere}
 use Rattle.opening.specs.declared.answer.Verdict.{Verdict}
 use Rattle.opening.specs.declared.answer.Verdict.the-variants.{Refused, Passed}
 use Rattle.opening.specs.Search.{first}
@@ -34,14 +34,6 @@ module _ (f e p r w : ℕ) (next : Verdict) where
 -- ---- tests 6 to 8
 
 module _ (E : List ℕ) (vertices : ℕ) where
-  pub same-refused : (k : ℕ) → first (same E) (length E / 4) ≡ At k → late E vertices ≡ Refused 6 k
-  unfolding late
-  same-refused k a = rw a
-
-  pub third-refused : (k : ℕ) → first (same E) (length E / 4) ≡ Nowhere → first (third E) (length E / 4) ≡ At k → late E vertices ≡ Refused 7 k
-  unfolding late
-  third-refused k a b = rw (a, b)
-
   pub garish-last : first (same E) (length E / 4) ≡ Nowhere → first (third E) (length E / 4) ≡ Nowhere → late E vertices ≡ at (first (garish E) vertices) 8 Passed
   unfolding late
   garish-last a b = rw (a, b)

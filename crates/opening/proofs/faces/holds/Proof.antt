@@ -1,6 +1,6 @@
 -- `opening::faces::holds` meets its contract: each return is a place of the element. Assumes nothing.
 use borrow.Author.Needs.{needs}
-use Rattle.opening.proofs.laws.Faces.{holds-first, holds-second, holds-third, holds-last}
+use Rattle.opening.proofs.laws.Faces.{holds-first, holds-second, holds-third, holds-last, holds-none}
 use Rattle.opening.proofs.faces.holds.Statement.{statement}
 use Rattle.opening.proofs.faces.holds.Tie as tie
 
@@ -26,7 +26,10 @@ vertex-at-requires-4 : tie.Need-vertex-at-requires-4
 vertex-at-requires-4 c κs = search needs
 
 returns-4 : tie.Need-returns-4
-returns-4 c = search holds-last depth 9
+returns-4 c = search holds-last
+
+returns-5 : tie.Need-returns-5
+returns-5 c = search holds-none depth 9
 
 pub holds-spec : {M : Type 1} → statement M
 holds-spec =
@@ -39,4 +42,5 @@ holds-spec =
     vertex-at-requires-3
     returns-3
     vertex-at-requires-4
-    returns-4)
+    returns-4
+    returns-5)

@@ -1,20 +1,25 @@
 -- `opening::index::fill` meets its contract. The loop's invariant: the first i slots are in the index, and the colours are untouched. Assumes nothing.
-use Prim.Native.Nat.{_≤_, _-_}
-use native.Mathlib.Omega.{arith}
+use Prim.Native.Nat.{_≤_, _-_, _+_, _*_}
 use borrow.Author.Needs.{needs}
-use lib.ListN.{length}
-use Rattle.opening.proofs.laws.Indexing.{Filling, filling-start, filling-next, filling-ready, filling-painted, filling-length}
+use Rattle.opening.specs.Scratch.{Filled}
+use Rattle.opening.proofs.laws.Indexing.{filling-next, filling-end, filling-length}
 use Rattle.opening.proofs.index.fill.Statement.{statement}
 use Rattle.opening.proofs.index.fill.Tie as tie
 
 abbrev Inv-loop : tie.InvT-loop
-Inv-loop elements vertices scratch₀ n i₀ scratch i = (i ≤ length elements) × Filling elements i scratch
+Inv-loop elements vertices scratch₀ k i₀ end scratch i = (i ≤ 4 * k + 4) × Filled elements i scratch
 
 abbrev μ-loop : tie.MeasureT-loop
-μ-loop elements vertices scratch₀ n i₀ scratch i = length elements - i
+μ-loop elements vertices scratch₀ k i₀ end scratch i = 4 * k + 4 - i
+
+mul-i : tie.Need-mul-i Inv-loop μ-loop
+mul-i c = search needs
+
+add-end : tie.Need-add-end Inv-loop μ-loop
+add-end c = search needs
 
 loop-holds : tie.Need-loop-holds Inv-loop μ-loop
-loop-holds c = (search needs, filling-start (search needs))
+loop-holds c = (search needs, search needs)
 
 mul-wide : tie.Need-mul-wide Inv-loop μ-loop
 mul-wide c = search needs
@@ -38,13 +43,13 @@ loop-less : tie.Need-loop-less Inv-loop μ-loop
 loop-less c = search needs
 
 loop-again : tie.Need-loop-again Inv-loop μ-loop
-loop-again c = (search needs, filling-next (c .before .before .before .before .before .before .before .before .before .before .before .before .before .before .pre .0) (c .before .before .before .before .before .before .before .before .before .before .before .loop .inv .1) (c .before .before .before .before .before .before .before .before .before .before .loop-test .taken) (c .before .before .before .before .before .before .before .before .wide .ensures) (c .before .before .before .before .before .before .push .ensures) (c .before .before .bump .ensures))
+loop-again c = (search needs, filling-next (c .before .before .before .before .before .before .before .before .before .before .before .before .before .before .pre .0) (c .before .before .before .before .before .before .before .before .before .before .before .loop .inv .1) (search needs) (c .before .before .before .before .before .before .before .before .wide .ensures) (c .before .before .before .before .before .before .push .ensures) (c .before .before .bump .ensures))
 
 same-length : tie.Need-same-length Inv-loop μ-loop
-same-length c = filling-length (c .before .before .before .before .pre .1) (c .before .loop .inv .1)
+same-length c = search (filling-length, needs)
 
 returns : tie.Need-returns Inv-loop μ-loop
-returns c = (filling-ready (c .before .loop .inv .1) (omega arith), filling-painted (c .before .loop .inv .1))
+returns c = search (filling-end, needs)
 
 pub fill-spec : {M : Type 1} → statement M
 fill-spec =
@@ -52,6 +57,8 @@ fill-spec =
     (tie.spec
     Inv-loop
     μ-loop
+    mul-i
+    add-end
     loop-holds
     mul-wide
     shared-slice-read-wide

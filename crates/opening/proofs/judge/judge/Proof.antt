@@ -28,17 +28,14 @@ returns-2 c = settled-numbers _ _ _ _ _ (sym (c .before .before .before .before 
 enum-told-2 : tie.Need-enum-told-2
 enum-told-2 c = search needs
 
-fill-requires : tie.Need-fill-requires
-fill-requires c κs = (plain-judged _ _ (c .before .before .before .before .before .before .before .before .before .before .args .points) (c .before .before .before .before .before .before .before .before .before .before .args .records) (c .before .before .before .before .before .before .before .before .before .before .args .rows) (sym (c .before .before .before .before .before .before .judge-lengths .ensures) ∙ c .before .before .before .before .enum-told .given .1) (sym (c .before .before .before .judge-numbers .ensures) ∙ c .before .enum-told2 .given .1), c .before .before .before .before .before .before .before .before .before .before .pre)
-
 judge-faces-requires : tie.Need-judge-faces-requires
-judge-faces-requires c κs = (plain-judged _ _ (c .before .before .before .before .before .before .before .before .before .before .before .before .before .before .args .points) (c .before .before .before .before .before .before .before .before .before .before .before .before .before .before .args .records) (c .before .before .before .before .before .before .before .before .before .before .before .before .before .before .args .rows) (sym (c .before .before .before .before .before .before .before .before .before .before .judge-lengths .ensures) ∙ c .before .before .before .before .before .before .before .before .enum-told .given .1) (sym (c .before .before .before .before .before .before .before .judge-numbers .ensures) ∙ c .before .before .before .before .before .enum-told2 .given .1), (c .before .before .before .fill .ensures .0, c .before .before .before .fill .ensures .1))
+judge-faces-requires c κs = (plain-judged _ _ (c .before .before .before .before .before .before .before .before .before .before .args .points) (c .before .before .before .before .before .before .before .before .before .before .args .records) (c .before .before .before .before .before .before .before .before .before .before .args .rows) (sym (c .before .before .before .before .before .before .judge-lengths .ensures) ∙ c .before .before .before .before .enum-told .given .1) (sym (c .before .before .before .judge-numbers .ensures) ∙ c .before .enum-told2 .given .1), c .before .before .before .before .before .before .before .before .before .before .pre)
 
 same-length : tie.Need-same-length
 same-length c = search needs
 
 returns-3 : tie.Need-returns-3
-returns-3 c = settled-judged _ _ _ _ _ (sym (c .before .before .before .before .before .before .before .before .before .before .before .before .before .judge-lengths .ensures) ∙ c .before .before .before .before .before .before .before .before .before .before .before .enum-told .given .1) (sym (c .before .before .before .before .before .before .before .before .before .before .judge-numbers .ensures) ∙ c .before .before .before .before .before .before .before .before .enum-told2 .given .1) (c .before .before .judge-faces .ensures)
+returns-3 c = settled-judged _ _ _ _ _ (sym (c .before .before .before .before .before .before .before .before .before .judge-lengths .ensures) ∙ c .before .before .before .before .before .before .before .enum-told .given .1) (sym (c .before .before .before .before .before .before .judge-numbers .ensures) ∙ c .before .before .before .before .enum-told2 .given .1) (c .before .before .judge-faces .ensures)
 
 pub judge-spec : {M : Type 1} → statement M
 judge-spec =
@@ -52,7 +49,6 @@ judge-spec =
     enum-known-numbers
     returns-2
     enum-told-2
-    fill-requires
     judge-faces-requires
     same-length
     returns-3)
