@@ -9,7 +9,6 @@ pub mod Walking
 pub mod Corners
 pub mod Earlier
 pub mod Faces
-pub mod Uses
 pub mod Indexing
 pub mod Sifting
 pub mod Free

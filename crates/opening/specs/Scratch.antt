@@ -1,4 +1,4 @@
--- The scratch table while opening looks at the input: heads, links, counts of uses and colours, and what each step keeps true of them. Nothing here is promised to callers.
+-- The tables of a call while opening looks at the input: the index, its heads before its links, and the colours; and what each step keeps true of them. Nothing here is promised to callers.
 use mathlib.Core.Path.{_≡_}
 use mathlib.Core.Bool.{Bool, true, false, _&&_, _||_, cond}
 use mathlib.Core.Logic.{_⊎_}
@@ -22,14 +22,8 @@ use Rattle.opening.specs.Colours.{taken, colours, colourOf, garish}
 abbrev pub linksAt : ℕ
 linksAt = 20000
 
-abbrev pub usesAt : ℕ
-usesAt = 420000
-
-abbrev pub coloursAt : ℕ
-coloursAt = 440000
-
-abbrev pub scratchLength : ℕ
-scratchLength = 460000
+abbrev pub paintLength : ℕ
+paintLength = 20000
 
 -- the key of corner slot i
 abbrev pub slot : List ℕ → ℕ → ℕ
@@ -50,28 +44,19 @@ pub record Roomy (coordinates elements points records rows : ℕ) : Type 0 where
   pub records-fit : 2 * (coordinates / 3) ≤ records
   pub rows-fit : 8 * (elements / 4) ≤ rows
 
--- all zero, as the frame makes it
-abbrev pub Blank : List ℕ → Type 0
-Blank scratch = scratch ≡ replicate scratchLength 0
+-- an index with room for all corner slots that has the first n of them
+pub record Filled (E : List ℕ) (n : ℕ) (table : List ℕ) : Type 0 where
+  pub room : linksAt + length E ≤ length table
+  pub index : Indexed (slot E) n linksAt table
 
 -- every corner slot is in the index
-pub record Ready (E scratch : List ℕ) : Type 0 where
-  pub size : length scratch ≡ scratchLength
-  pub index : Indexed (slot E) (length E) linksAt scratch
+abbrev pub Ready : List ℕ → List ℕ → Type 0
+Ready E index = Filled E (length E) index
 
--- the first n corner slots are in the index, and the colours are untouched
-pub record Filled (E : List ℕ) (n : ℕ) (scratch : List ℕ) : Type 0 where
-  pub size : length scratch ≡ scratchLength
-  pub index : Indexed (slot E) n linksAt scratch
-  pub clear : (u : ℕ) → getD scratch (coloursAt + u) 0 ≡ 0
-
--- there is a count of uses for v, and one more is a u32
-abbrev pub countable : List ℕ → ℕ → Bool
-countable scratch v = ltb (usesAt + v) coloursAt && (ltb (usesAt + v) (length scratch) && ltb (getD scratch (usesAt + v) 0) 4294967295)
-
--- one use of v more. The counts only choose which chain is walked, so nothing is said of their values.
-unfoldable pub bumped : List ℕ → ℕ → List ℕ
-bumped scratch v = cond (countable scratch v) (set scratch (usesAt + v) (getD scratch (usesAt + v) 0 + 1)) scratch
+-- a table of colours, all zero
+pub record Clear (paint : List ℕ) : Type 0 where
+  pub size : length paint ≡ paintLength
+  pub zeros : (u : ℕ) → getD paint u 0 ≡ 0
 
 -- a place of an element, one of two
 pub record Chosen (p q r : ℕ) : Type 0 where
@@ -132,9 +117,9 @@ pub record Meets (E : List ℕ) (k : ℕ) (r : Met) : Type 0 where
   pub same : r .same ≡ same E k
   pub third : r .third ≡ third E k
 
--- the colours of the first v vertices stand in the scratch table and zeros after them, and none is over 63
-pub record Painted (E : List ℕ) (v : ℕ) (scratch : List ℕ) : Type 0 where
-  pub colour : (u : ℕ) → getD scratch (coloursAt + u) 0 ≡ getD (colours E v) u 0
+-- the colours of the first v vertices stand in the table and zeros after them, and none is over 63
+pub record Painted (E : List ℕ) (v : ℕ) (paint : List ℕ) : Type 0 where
+  pub colour : (u : ℕ) → getD paint (u) 0 ≡ getD (colours E v) u 0
   pub small : (u : ℕ) → u < v → getD (colours E v) u 0 ≤ 63
 
 -- sixty-four flags, none set
@@ -143,11 +128,11 @@ Flags = replicate 64 0
 
 -- the flags with the colour of u set where u is smaller than v
 unfoldable pub marked : List ℕ → ℕ → ℕ → List ℕ → List ℕ
-marked scratch v u flags = cond (ltb u v) (set flags (getD scratch (coloursAt + u) 0) 1) flags
+marked paint v u flags = cond (ltb u v) (set flags (getD paint (u) 0) 1) flags
 
 unfoldable pub markedAll : List ℕ → List ℕ → ℕ → ℕ → List ℕ → List ℕ
-markedAll E scratch v k flags =
-    marked scratch v (vertex E k 3) (marked scratch v (vertex E k 2) (marked scratch v (vertex E k 1) (marked scratch v (vertex E k 0) flags)))
+markedAll E paint v k flags =
+    marked paint v (vertex E k 3) (marked paint v (vertex E k 2) (marked paint v (vertex E k 1) (marked paint v (vertex E k 0) flags)))
 
 -- flag c is set exactly if a smaller neighbour of v has the colour c
 pub record Marks (E : List ℕ) (v : ℕ) (flags : List ℕ) : Type 0 where
@@ -159,37 +144,36 @@ unfoldable pub unmarked : List ℕ → ℕ → ℕ
 unmarked flags zero = 0
 unmarked flags (suc n) = cond (ltb (unmarked flags n) n) (unmarked flags n) (cond (eqb (getD flags n 0) 0) n (suc n))
 
--- the smallest vertex with a colour over 63; where there is none, all colours stand in the scratch table
-pub record Coloured (vertices : ℕ) (E : List ℕ) (r : Found) (scratch : List ℕ) : Type 0 where
+-- the smallest vertex with a colour over 63; where there is none, all colours stand in the table
+pub record Coloured (vertices : ℕ) (E : List ℕ) (r : Found) (paint : List ℕ) : Type 0 where
   pub answer : r ≡ first (garish E) vertices
-  pub size : length scratch ≡ scratchLength
-  pub painted : r ≡ Nowhere → Painted E vertices scratch
+  pub size : length paint ≡ paintLength
+  pub painted : r ≡ Nowhere → Painted E vertices paint
 
 -- the verdict of tests 6 and 7; where they pass, every corner slot is in the index
-pub record Sifted (E : List ℕ) (r : Verdict) (scratch : List ℕ) : Type 0 where
+pub record Sifted (E : List ℕ) (r : Verdict) (index : List ℕ) : Type 0 where
   pub answer : r ≡ at (first (same E) (length E / 4)) 6 (at (first (third E) (length E / 4)) 7 Passed)
-  pub size : length scratch ≡ scratchLength
-  pub filled : r ≡ Passed → Filled E (length E) scratch
+  pub ready : r ≡ Passed → Ready E index
 
--- the verdict of tests 6 to 8; where they pass, all colours stand in the scratch table
-pub record Judged (vertices : ℕ) (E : List ℕ) (r : Verdict) (scratch : List ℕ) : Type 0 where
+-- the verdict of tests 6 to 8; where they pass, all colours stand in the table
+pub record Judged (vertices : ℕ) (E : List ℕ) (r : Verdict) (paint : List ℕ) : Type 0 where
   pub answer : r ≡ late E vertices
-  pub size : length scratch ≡ scratchLength
-  pub painted : r ≡ Passed → Painted E vertices scratch
+  pub size : length paint ≡ paintLength
+  pub painted : r ≡ Passed → Painted E vertices paint
 
 -- all that storing the opened mesh relies on
-pub record Storable (F : List Float) (E scratch : List ℕ) (points records rows : ℕ) : Type 0 where
+pub record Storable (F : List Float) (E paint : List ℕ) (points records rows : ℕ) : Type 0 where
   pub plain : Plain (length F / 3) E
-  pub size : length scratch ≡ scratchLength
-  pub painted : Painted E (length F / 3) scratch
+  pub size : length paint ≡ paintLength
+  pub painted : Painted E (length F / 3) paint
   pub room : Roomy (length F) (length E) points records rows
 
--- the verdict of all tests; where they pass, the input is plain and all colours stand in the scratch table
-pub record Settled (F : List Float) (E : List ℕ) (points records rows : ℕ) (r : Verdict) (scratch : List ℕ) : Type 0 where
+-- the verdict of all tests; where they pass, the input is plain and all colours stand in the table
+pub record Settled (F : List Float) (E : List ℕ) (points records rows : ℕ) (r : Verdict) (paint : List ℕ) : Type 0 where
   pub answer : r ≡ judged F E points records rows
-  pub size : length scratch ≡ scratchLength
-  pub storable : r ≡ Passed → Storable F E scratch points records rows
+  pub size : length paint ≡ paintLength
+  pub storable : r ≡ Passed → Storable F E paint points records rows
 
--- the colour of v as the scratch table has it
+-- the colour of v as the table has it
 abbrev pub colourIn : List ℕ → ℕ → ℕ
-colourIn scratch v = getD scratch (coloursAt + v) 0
+colourIn paint v = getD paint (v) 0

@@ -1,4 +1,4 @@
--- Vertices on their way into a row, with their colours in the scratch table. Nothing here is promised to callers.
+-- Vertices on their way into a row, with their colours in the table. Nothing here is promised to callers.
 use Prim.Native.Nat.{ℕ, _<_}
 use Rattle.split.specs.Split.{Corners, corners}
 use Rattle.opening.specs.declared.order.Two.{Two}
@@ -11,7 +11,7 @@ four w = corners (w .a) (w .b) (w .c) (w .d)
 abbrev pub inOrder : (ℕ → ℕ) → ℕ → ℕ → Two
 inOrder f a b = record { low = lower f a b; high = upper f a b }
 
--- vertex numbers that the scratch table has a colour for
+-- vertex numbers that the table has a colour for
 pub record Low (w : Four) : Type 0 where
   pub a : w .a < 20000
   pub b : w .b < 20000

@@ -1,7 +1,7 @@
 // Whether tables hold what opening would give: the same colours and, but for the first child, the same rows.
 use crate::answer::Verdict;
+use crate::colours::PAINT;
 use crate::colours::largest_colour;
-use crate::index::SCRATCH;
 use crate::judge::judge;
 use crate::order::root_row;
 use crate::store::initial_record;
@@ -12,7 +12,7 @@ ghost use mathlib.Core.List.{List};
 ghost use Prim.Native.Nat.{ℕ, _*_, _/_, _≤_};
 ghost use lib.ListN.{length};
 ghost use Rattle.opening.specs.Agree.{sameRecord, sameRoot, recordsAgree, rowsAgree, agreed};
-ghost use Rattle.opening.specs.Scratch.{Plain, colourIn, scratchLength};
+ghost use Rattle.opening.specs.Scratch.{Plain, colourIn, paintLength};
 
 fn same_record(a: Record, b: Record) -> bool
     ensures { λ r. ⌜ r ≡ sameRecord a b ⌝ }
@@ -48,15 +48,15 @@ fn same_root(a: Row, b: Row) -> bool
     a.depth == b.depth
 }
 
-fn records_agree(scratch: &[u32], vertices: usize, records: &[u32]) -> bool
-    requires { ⌜ length (now scratch) ≡ scratchLength ⌝ }
+fn records_agree(paint: &[u32], vertices: usize, records: &[u32]) -> bool
+    requires { ⌜ length (now paint) ≡ paintLength ⌝ }
     requires { ⌜ vertices ≤ 20000 ⌝ }
-    ensures { λ r. ⌜ r ≡ recordsAgree (colourIn (now (scratch .entry))) (now (records .entry)) vertices ⌝ }
+    ensures { λ r. ⌜ r ≡ recordsAgree (colourIn (now (paint .entry))) (now (records .entry)) vertices ⌝ }
 {
     let mut v = 0usize;
     while v < vertices {
         let held = tables::record::read(records, v);
-        if !same_record(held, initial_record(scratch, v)) {
+        if !same_record(held, initial_record(paint, v)) {
             return false;
         }
         v += 1;
@@ -64,16 +64,16 @@ fn records_agree(scratch: &[u32], vertices: usize, records: &[u32]) -> bool
     true
 }
 
-fn rows_agree(elements: &[u32], scratch: &[u32], vertices: usize, n: u32, rows: &[u32]) -> bool
+fn rows_agree(elements: &[u32], paint: &[u32], vertices: usize, n: u32, rows: &[u32]) -> bool
     requires { ⌜ Plain vertices (now elements) ⌝ }
-    requires { ⌜ length (now scratch) ≡ scratchLength ⌝ }
-    ensures { λ r. ⌜ r ≡ rowsAgree n (colourIn (now (scratch .entry))) (now (elements .entry)) (now (rows .entry)) (length (now (elements .entry)) / 4) ⌝ }
+    requires { ⌜ length (now paint) ≡ paintLength ⌝ }
+    ensures { λ r. ⌜ r ≡ rowsAgree n (colourIn (now (paint .entry))) (now (elements .entry)) (now (rows .entry)) (length (now (elements .entry)) / 4) ⌝ }
 {
     let count = elements.len() / 4;
     let mut k = 0usize;
     while k < count {
         let held = tables::row::read(rows, k);
-        if !same_root(held, root_row(elements, scratch, vertices, n, k)) {
+        if !same_root(held, root_row(elements, paint, vertices, n, k)) {
             return false;
         }
         k += 1;
@@ -93,14 +93,14 @@ pub fn agrees(coordinates: &[f64], elements: &[u32], records: &[u32], rows: &[u3
     }
     let vertices = coordinates.len() / 3;
     let count = elements.len() / 4;
-    let mut scratch = [0u32; SCRATCH];
+    let mut paint = [0u32; PAINT];
     let verdict = judge(
         coordinates,
         elements,
         3 * vertices,
         2 * vertices,
         8 * count,
-        &mut scratch,
+        &mut paint,
     );
     if let Verdict::Refused {
         number: _,
@@ -108,9 +108,9 @@ pub fn agrees(coordinates: &[f64], elements: &[u32], records: &[u32], rows: &[u3
     } = verdict {
         return false;
     }
-    if !records_agree(&scratch, vertices, records) {
+    if !records_agree(&paint, vertices, records) {
         return false;
     }
-    let n = largest_colour(elements, &scratch, vertices);
-    rows_agree(elements, &scratch, vertices, n, rows)
+    let n = largest_colour(elements, &paint, vertices);
+    rows_agree(elements, &paint, vertices, n, rows)
 }

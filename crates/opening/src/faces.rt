@@ -1,10 +1,7 @@
 // Numbers 6 and 7 at one element, through the index of the elements before it: the same four vertices before, a face in two elements before.
 use crate::elements::vertex_at;
 use crate::elements::wide;
-use crate::index::COLOURS;
 use crate::index::LINKS;
-use crate::index::SCRATCH;
-use crate::index::USES;
 ghost use mathlib.Core.Path.{_≡_};
 ghost use Prim.Native.Nat.{_*_, _/_, _<_, _+_};
 ghost use lib.ListN.{length};
@@ -68,7 +65,7 @@ fn note(elements: &[u32], j: usize, a: usize, b: usize, c: usize, s: Seen) -> Se
 // Walks the chain of v: what the elements before k that hold v hold of a, b and c.
 fn tally(
     elements: &[u32],
-    scratch: &[u32],
+    index: &[u32],
     vertices: usize,
     k: usize,
     v: usize,
@@ -77,7 +74,7 @@ fn tally(
     c: usize,
 ) -> Seen
     requires { ⌜ Plain vertices (now elements) ⌝ }
-    requires { ⌜ Filled (now elements) (4 * k) (now scratch) ⌝ }
+    requires { ⌜ Filled (now elements) (4 * k) (now index) ⌝ }
     requires { ⌜ k < length (now elements) / 4 ⌝ }
     requires { ⌜ v < vertices ⌝ }
     ensures { λ s. ⌜ Counted (now (elements .entry)) k v a b c s ⌝ }
@@ -88,54 +85,47 @@ fn tally(
         ac: 0,
         bc: 0,
     };
-    let mut at = wide(scratch[v]);
+    let mut at = wide(index[v]);
     while 0 < at {
         let i = at - 1;
         s = note(elements, i / 4, a, b, c, s);
-        at = wide(scratch[LINKS + i]);
+        at = wide(index[LINKS + i]);
     }
     s
 }
 
 // Whether a is used less than b. It only chooses which chain is walked, and any choice is right, so it promises nothing.
-fn used_less(scratch: &[u32], a: usize, b: usize) -> bool {
-    if scratch.len() < SCRATCH {
+fn used_less(uses: &[u32], a: usize, b: usize) -> bool {
+    if uses.len() <= a {
         return false;
     }
-    if COLOURS - USES <= a {
+    if uses.len() <= b {
         return false;
     }
-    if COLOURS - USES <= b {
-        return false;
-    }
-    scratch[USES + a] < scratch[USES + b]
+    uses[a] < uses[b]
 }
 
 // Of two places of element k that whose vertex is used less.
-fn rarer(elements: &[u32], scratch: &[u32], k: usize, p: usize, q: usize) -> usize
+fn rarer(elements: &[u32], uses: &[u32], k: usize, p: usize, q: usize) -> usize
     requires { ⌜ 4 * k + 3 < length (now elements) ⌝ }
     requires { ⌜ p < 4 ⌝ }
     requires { ⌜ q < 4 ⌝ }
     ensures { λ r. ⌜ Chosen p q r ⌝ }
 {
-    if used_less(
-        scratch,
-        vertex_at(elements, k, q),
-        vertex_at(elements, k, p),
-    ) {
+    if used_less(uses, vertex_at(elements, k, q), vertex_at(elements, k, p)) {
         return q;
     }
     p
 }
 
 // Of the other places of element k than m that whose vertex is used least.
-fn other(elements: &[u32], scratch: &[u32], k: usize, m: usize) -> usize
+fn other(elements: &[u32], uses: &[u32], k: usize, m: usize) -> usize
     requires { ⌜ 4 * k + 3 < length (now elements) ⌝ }
     requires { ⌜ m < 4 ⌝ }
     ensures { λ r. ⌜ Other m r ⌝ }
 {
-    let p = rarer(elements, scratch, k, (m + 1) % 4, (m + 2) % 4);
-    rarer(elements, scratch, k, p, (m + 3) % 4)
+    let p = rarer(elements, uses, k, (m + 1) % 4, (m + 2) % 4);
+    rarer(elements, uses, k, p, (m + 3) % 4)
 }
 
 // Whether two elements hold the same two of three vertices.
@@ -152,9 +142,9 @@ fn crowded(s: Seen) -> bool
 }
 
 // Number 6 at element k, and number 7 at its three faces that hold the vertex at place m.
-fn around(elements: &[u32], scratch: &[u32], vertices: usize, k: usize, m: usize) -> Met
+fn around(elements: &[u32], index: &[u32], vertices: usize, k: usize, m: usize) -> Met
     requires { ⌜ Plain vertices (now elements) ⌝ }
-    requires { ⌜ Filled (now elements) (4 * k) (now scratch) ⌝ }
+    requires { ⌜ Filled (now elements) (4 * k) (now index) ⌝ }
     requires { ⌜ k < length (now elements) / 4 ⌝ }
     requires { ⌜ m < 4 ⌝ }
     ensures { λ r. ⌜ Around (now (elements .entry)) k m r ⌝ }
@@ -163,7 +153,7 @@ fn around(elements: &[u32], scratch: &[u32], vertices: usize, k: usize, m: usize
     let a = vertex_at(elements, k, (m + 1) % 4);
     let b = vertex_at(elements, k, (m + 2) % 4);
     let c = vertex_at(elements, k, (m + 3) % 4);
-    let s = tally(elements, scratch, vertices, k, v, a, b, c);
+    let s = tally(elements, index, vertices, k, v, a, b, c);
     Met {
         same: 0 < s.all,
         third: crowded(s),
@@ -171,22 +161,16 @@ fn around(elements: &[u32], scratch: &[u32], vertices: usize, k: usize, m: usize
 }
 
 // Numbers 6 and 7 at element k: the chain of the vertex that is used least has all but the face opposite to it, and that of any other vertex has this face.
-pub fn meets(elements: &[u32], scratch: &[u32], vertices: usize, k: usize) -> Met
+pub fn meets(elements: &[u32], index: &[u32], uses: &[u32], vertices: usize, k: usize) -> Met
     requires { ⌜ Plain vertices (now elements) ⌝ }
-    requires { ⌜ Filled (now elements) (4 * k) (now scratch) ⌝ }
+    requires { ⌜ Filled (now elements) (4 * k) (now index) ⌝ }
     requires { ⌜ k < length (now elements) / 4 ⌝ }
     ensures { λ r. ⌜ Meets (now (elements .entry)) k r ⌝ }
 {
-    let m = rarer(elements, scratch, k, 0, other(elements, scratch, k, 0));
-    let near = around(elements, scratch, vertices, k, m);
+    let m = rarer(elements, uses, k, 0, other(elements, uses, k, 0));
+    let near = around(elements, index, vertices, k, m);
     if near.third {
         return near;
     }
-    around(
-        elements,
-        scratch,
-        vertices,
-        k,
-        other(elements, scratch, k, m),
-    )
+    around(elements, index, vertices, k, other(elements, uses, k, m))
 }

@@ -1,49 +1,36 @@
-// The index of corner slots: place 4 k + q has the key vertex q of element k. In the scratch table stand the heads, the links, how often each vertex is used, and then the colours.
+// The index of corner slots: place 4 k + q has the key vertex q of element k. It is a table of the heads and then the links. Beside it stands how often each vertex is used so far.
 
 use crate::elements::wide;
-ghost use mathlib.Core.Path.{_≡_};
 ghost use Prim.Native.Nat.{_*_, _/_, _<_, _+_};
 ghost use lib.ListN.{length};
-ghost use Rattle.opening.specs.Scratch.{Plain, Filled, bumped};
+ghost use Rattle.opening.specs.Scratch.{Plain, Filled};
 
-// Where the links, the counts of uses and the colours begin, and the length of the whole.
+// Where the links begin.
 pub const LINKS: usize = 20000;
 
-pub const USES: usize = 420000;
-
-pub const COLOURS: usize = 440000;
-
-pub const SCRATCH: usize = 460000;
-
-// Counts one use of v more. Where there is no room for it nothing changes: the counts only choose which chain is walked.
-fn bump(scratch: &mut [u32], v: usize)
-    ensures { λ _. ⌜ now (scratch .exit) ≡ bumped (now (scratch .entry)) v ⌝ }
-{
-    if COLOURS - USES <= v {
+// Counts one use of v more. It promises nothing: the counts only choose which chain is walked.
+fn bump(uses: &mut [u32], v: usize) {
+    if uses.len() <= v {
         return;
     }
-    let i = USES + v;
-    if scratch.len() <= i {
-        return;
-    }
-    if scratch[i] < 4294967295 {
-        scratch[i] = scratch[i] + 1;
+    if uses[v] < 4294967295 {
+        uses[v] = uses[v] + 1;
     }
 }
 
 // Puts the four corners of element k into the index.
-pub fn fill(elements: &[u32], vertices: usize, scratch: &mut [u32], k: usize)
+pub fn fill(elements: &[u32], vertices: usize, index: &mut [u32], uses: &mut [u32], k: usize)
     requires { ⌜ Plain vertices (now elements) ⌝ }
-    requires { ⌜ Filled (now elements) (4 * k) (now scratch) ⌝ }
+    requires { ⌜ Filled (now elements) (4 * k) (now index) ⌝ }
     requires { ⌜ k < length (now elements) / 4 ⌝ }
-    ensures { λ _. ⌜ Filled (now (elements .entry)) (4 * (k + 1)) (now (scratch .exit)) ⌝ }
+    ensures { λ _. ⌜ Filled (now (elements .entry)) (4 * (k + 1)) (now (index .exit)) ⌝ }
 {
     let mut i = 4 * k;
     let end = i + 4;
     while i < end {
         let v = wide(elements[i]);
-        chain::push(scratch, LINKS, i, v);
-        bump(scratch, v);
+        chain::push(index, LINKS, i, v);
+        bump(uses, v);
         i += 1;
     }
 }

@@ -16,7 +16,7 @@ ghost use lib.ListN.{length};
 ghost use Rattle.opening.specs.declared.answer.Verdict.the-variants.{Passed};
 ghost use Rattle.opening.specs.Search.{orAt};
 ghost use Rattle.opening.specs.Opening.{at, fitting, plain};
-ghost use Rattle.opening.specs.Scratch.{Plain, Blank, Sifted, Judged, Settled};
+ghost use Rattle.opening.specs.Scratch.{Plain, Filled, Clear, Sifted, Judged, Settled};
 
 // Refused by this number at the place found, else the verdict of what comes next.
 fn verdict_at(found: Found, number: u32, next: Verdict) -> Verdict
@@ -83,16 +83,17 @@ fn or_at(found: Found, met: bool, k: usize) -> Found
 }
 
 // Numbers 6 and 7 in one pass: each element is held against those before it and then put into the index. The first of number 7 is kept until no number 6 has come.
-fn sift(elements: &[u32], vertices: usize, scratch: &mut [u32]) -> Verdict
+fn sift(elements: &[u32], vertices: usize, index: &mut [u32]) -> Verdict
     requires { ⌜ Plain vertices (now elements) ⌝ }
-    requires { ⌜ Blank (now scratch) ⌝ }
-    ensures { λ r. ⌜ Sifted (now (elements .entry)) r (now (scratch .exit)) ⌝ }
+    requires { ⌜ Filled (now elements) 0 (now index) ⌝ }
+    ensures { λ r. ⌜ Sifted (now (elements .entry)) r (now (index .exit)) ⌝ }
 {
     let n = elements.len() / 4;
+    let mut uses = [0u32; 20000];
     let mut third = Found::Nowhere;
     let mut k = 0usize;
     while k < n {
-        let met = meets(elements, scratch, vertices, k);
+        let met = meets(elements, index, &uses, vertices, k);
         if met.same {
             return Verdict::Refused {
                 number: 6,
@@ -100,35 +101,55 @@ fn sift(elements: &[u32], vertices: usize, scratch: &mut [u32]) -> Verdict
             };
         }
         third = or_at(third, met.third, k);
-        fill(elements, vertices, scratch, k);
+        fill(elements, vertices, index, &mut uses, k);
         k += 1;
     }
     verdict_at(third, 7, Verdict::Passed)
 }
 
-fn judge_faces(elements: &[u32], vertices: usize, scratch: &mut [u32]) -> Verdict
+// Tests 6 to 8 through an index that has room for all corners.
+fn judge_late(elements: &[u32], vertices: usize, index: &mut [u32], paint: &mut [u32]) -> Verdict
     requires { ⌜ Plain vertices (now elements) ⌝ }
-    requires { ⌜ Blank (now scratch) ⌝ }
-    ensures { λ r. ⌜ Judged vertices (now (elements .entry)) r (now (scratch .exit)) ⌝ }
+    requires { ⌜ Filled (now elements) 0 (now index) ⌝ }
+    requires { ⌜ Clear (now paint) ⌝ }
+    ensures { λ r. ⌜ Judged vertices (now (elements .entry)) r (now (paint .exit)) ⌝ }
 {
-    let faces = sift(elements, vertices, scratch);
+    let faces = sift(elements, vertices, index);
     if let Verdict::Refused { number, place } = faces {
         return Verdict::Refused { number, place };
     }
-    verdict_at(colour_all(elements, vertices, scratch), 8, Verdict::Passed)
+    verdict_at(
+        colour_all(elements, vertices, index, paint),
+        8,
+        Verdict::Passed,
+    )
 }
 
-// All tests; where they pass, the scratch table has the colours.
+// A small mesh has a small index.
+fn judge_faces(elements: &[u32], vertices: usize, paint: &mut [u32]) -> Verdict
+    requires { ⌜ Plain vertices (now elements) ⌝ }
+    requires { ⌜ Clear (now paint) ⌝ }
+    ensures { λ r. ⌜ Judged vertices (now (elements .entry)) r (now (paint .exit)) ⌝ }
+{
+    if elements.len() <= 40000 {
+        let mut small = [0u32; 60000];
+        return judge_late(elements, vertices, &mut small, paint);
+    }
+    let mut large = [0u32; 420000];
+    judge_late(elements, vertices, &mut large, paint)
+}
+
+// All tests; where they pass, the table has the colours.
 pub fn judge(
     coordinates: &[f64],
     elements: &[u32],
     points: usize,
     records: usize,
     rows: usize,
-    scratch: &mut [u32],
+    paint: &mut [u32],
 ) -> Verdict
-    requires { ⌜ Blank (now scratch) ⌝ }
-    ensures { λ r. ⌜ Settled (now (coordinates .entry)) (now (elements .entry)) points records rows r (now (scratch .exit)) ⌝ }
+    requires { ⌜ Clear (now paint) ⌝ }
+    ensures { λ r. ⌜ Settled (now (coordinates .entry)) (now (elements .entry)) points records rows r (now (paint .exit)) ⌝ }
 {
     let lengths = judge_lengths(coordinates.len(), elements.len(), points, records, rows);
     if let Verdict::Refused { number, place } = lengths {
@@ -138,5 +159,5 @@ pub fn judge(
     if let Verdict::Refused { number, place } = numbers {
         return Verdict::Refused { number, place };
     }
-    judge_faces(elements, coordinates.len() / 3, scratch)
+    judge_faces(elements, coordinates.len() / 3, paint)
 }

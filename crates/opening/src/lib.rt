@@ -1,7 +1,7 @@
 // Opening a mesh: tests 1 to 8, the colours of Algorithm 2, the order of Definition 2, and the opened tables.
 use crate::answer::Opened;
 use crate::answer::Verdict;
-use crate::index::SCRATCH;
+use crate::colours::PAINT;
 use tables::layout::Counts;
 
 pub mod agree;
@@ -26,19 +26,19 @@ ghost use Rattle.opening.specs.Scratch.{Storable};
 fn store_all(
     coordinates: &[f64],
     elements: &[u32],
-    scratch: &[u32],
+    paint: &[u32],
     points: &mut [f64],
     records: &mut [u32],
     rows: &mut [u32],
 )
-    requires { ⌜ Storable (now coordinates) (now elements) (now scratch) (length (now points)) (length (now records)) (length (now rows)) ⌝ }
+    requires { ⌜ Storable (now coordinates) (now elements) (now paint) (length (now points)) (length (now records)) (length (now rows)) ⌝ }
     ensures { λ _. ⌜ lent (now (points .exit)) (now (records .exit)) (now (rows .exit)) ≡ laid (openedMesh (now (coordinates .entry)) (now (elements .entry))) (length (now (points .entry))) (length (now (records .entry))) (length (now (rows .entry))) ⌝ }
 {
     let vertices = coordinates.len() / 3;
-    let most = colours::largest_colour(elements, scratch, vertices);
+    let most = colours::largest_colour(elements, paint, vertices);
     store::store_points(coordinates, points);
-    store::store_records(scratch, vertices, records);
-    store::store_rows(elements, scratch, vertices, most, rows);
+    store::store_records(paint, vertices, records);
+    store::store_rows(elements, paint, vertices, most, rows);
 }
 
 // Opens the mesh of the given coordinates (three a vertex) and elements (four vertex numbers each) into the lent tables.
@@ -51,19 +51,19 @@ pub fn open(
 ) -> Opened
     ensures { λ r. ⌜ Opens (now (coordinates .entry)) (now (elements .entry)) (lent (now (points .entry)) (now (records .entry)) (now (rows .entry))) r (lent (now (points .exit)) (now (records .exit)) (now (rows .exit))) ⌝ }
 {
-    let mut scratch = [0u32; SCRATCH];
+    let mut paint = [0u32; PAINT];
     let verdict = judge::judge(
         coordinates,
         elements,
         points.len(),
         records.len(),
         rows.len(),
-        &mut scratch,
+        &mut paint,
     );
     if let Verdict::Refused { number, place } = verdict {
         return Opened::Refused { number, place };
     }
-    store_all(coordinates, elements, &scratch, points, records, rows);
+    store_all(coordinates, elements, &paint, points, records, rows);
     Opened::Done(Counts {
         vertices: coordinates.len() / 3,
         rows: elements.len() / 4,

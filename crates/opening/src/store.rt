@@ -1,5 +1,4 @@
 // The opened tables, written whole: points as given, records, rows, and zeros to the end of each lent table.
-use crate::index::COLOURS;
 use crate::order::root_row;
 use tables::layout::INITIAL;
 use tables::record::Record;
@@ -10,7 +9,7 @@ ghost use Rattle.tables.specs.Layout.{noFloat, pointAt, pointCells, recordCells
 ghost use Rattle.tables.specs.Mesh.{padded, flat, upTo};
 ghost use Rattle.opening.specs.Opening.{initial};
 ghost use Rattle.opening.specs.Order.{rootOf};
-ghost use Rattle.opening.specs.Scratch.{Plain, colourIn};
+ghost use Rattle.opening.specs.Scratch.{paintLength, Plain, colourIn};
 
 fn clear_numbers(table: &mut [u32])
     ensures { λ _. ⌜ now (table .exit) ≡ replicate (length (now (table .entry))) 0 ⌝ }
@@ -47,42 +46,42 @@ pub fn store_points(coordinates: &[f64], points: &mut [f64])
     }
 }
 
-pub fn initial_record(scratch: &[u32], v: usize) -> Record
-    requires { ⌜ length (now scratch) ≡ 460000 ⌝ }
+pub fn initial_record(paint: &[u32], v: usize) -> Record
+    requires { ⌜ length (now paint) ≡ paintLength ⌝ }
     requires { ⌜ v < 20000 ⌝ }
-    ensures { λ r. ⌜ r ≡ initial (colourIn (now (scratch .entry)) v) ⌝ }
+    ensures { λ r. ⌜ r ≡ initial (colourIn (now (paint .entry)) v) ⌝ }
 {
     Record {
-        first: scratch[COLOURS + v],
+        first: paint[v],
         second: INITIAL,
     }
 }
 
-pub fn store_records(scratch: &[u32], vertices: usize, records: &mut [u32])
-    requires { ⌜ length (now scratch) ≡ 460000 ⌝ }
+pub fn store_records(paint: &[u32], vertices: usize, records: &mut [u32])
+    requires { ⌜ length (now paint) ≡ paintLength ⌝ }
     requires { ⌜ vertices ≤ 20000 ⌝ }
     requires { ⌜ 2 * vertices ≤ length (now records) ⌝ }
-    ensures { λ _. ⌜ now (records .exit) ≡ padded (length (now (records .entry))) 0 (flat recordCells (upTo (λ (v : ℕ). initial (colourIn (now (scratch .entry)) v)) vertices)) ⌝ }
+    ensures { λ _. ⌜ now (records .exit) ≡ padded (length (now (records .entry))) 0 (flat recordCells (upTo (λ (v : ℕ). initial (colourIn (now (paint .entry)) v)) vertices)) ⌝ }
 {
     clear_numbers(records);
     let mut v = 0usize;
     while v < vertices {
-        tables::record::write(records, v, initial_record(scratch, v));
+        tables::record::write(records, v, initial_record(paint, v));
         v += 1;
     }
 }
 
-pub fn store_rows(elements: &[u32], scratch: &[u32], vertices: usize, n: u32, rows: &mut [u32])
+pub fn store_rows(elements: &[u32], paint: &[u32], vertices: usize, n: u32, rows: &mut [u32])
     requires { ⌜ Plain vertices (now elements) ⌝ }
-    requires { ⌜ length (now scratch) ≡ 460000 ⌝ }
+    requires { ⌜ length (now paint) ≡ paintLength ⌝ }
     requires { ⌜ 8 * (length (now elements) / 4) ≤ length (now rows) ⌝ }
-    ensures { λ _. ⌜ now (rows .exit) ≡ padded (length (now (rows .entry))) 0 (flat rowCells (upTo (rootOf n (colourIn (now (scratch .entry))) (now (elements .entry))) (length (now (elements .entry)) / 4))) ⌝ }
+    ensures { λ _. ⌜ now (rows .exit) ≡ padded (length (now (rows .entry))) 0 (flat rowCells (upTo (rootOf n (colourIn (now (paint .entry))) (now (elements .entry))) (length (now (elements .entry)) / 4))) ⌝ }
 {
     clear_numbers(rows);
     let count = elements.len() / 4;
     let mut k = 0usize;
     while k < count {
-        tables::row::write(rows, k, root_row(elements, scratch, vertices, n, k));
+        tables::row::write(rows, k, root_row(elements, paint, vertices, n, k));
         k += 1;
     }
 }

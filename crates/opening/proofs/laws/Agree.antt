@@ -200,23 +200,23 @@ module _ (F : List Float) (E R W : List ℕ) where
   agreed-many h = wrong (input-many (length F) (length E) h)
 
   -- x is the verdict of the tests
-  module _ {x : Verdict} {scratch : List ℕ} (s : Settled F E (3 * (length F / 3)) (2 * (length F / 3)) (8 * (length E / 4)) x scratch) where
+  module _ {x : Verdict} {table : List ℕ} (s : Settled F E (3 * (length F / 3)) (2 * (length F / 3)) (8 * (length E / 4)) x table) where
     pub agreed-refused : {n p : ℕ} → x ≡ Refused n p → false ≡ agreed F E R W
     agreed-refused e = refused (sym (s .answer) ∙ e)
 
-    -- r is the answer on the records: the scratch table has the colours of Algorithm 2
-    module _ (e : x ≡ Passed) {r : Bool} (a : r ≡ recordsAgree (colourIn scratch) R (length F / 3)) where
+    -- r is the answer on the records: the table has the colours of Algorithm 2
+    module _ (e : x ≡ Passed) {r : Bool} (a : r ≡ recordsAgree (colourIn table) R (length F / 3)) where
       passed : fresh F E ≡ Passed
       passed = sym (s .answer) ∙ e
 
-      painted : colourIn scratch ≡ paint F E
+      painted : colourIn table ≡ paint F E
       painted = colours-stored (s .storable e .painted)
 
       pub agreed-records : r ≡ false → false ≡ agreed F E R W
       unfolding agreed
       agreed-records b = rw (passed, ← painted, ← a, b)
 
-      pub agreed-rows : {N : ℕ} {w : Bool} → r ≡ true → N ≡ largest (colours E (length F / 3)) → w ≡ rowsAgree N (colourIn scratch) E W (length E / 4) → w ≡ agreed F E R W
+      pub agreed-rows : {N : ℕ} {w : Bool} → r ≡ true → N ≡ largest (colours E (length F / 3)) → w ≡ rowsAgree N (colourIn table) E W (length E / 4) → w ≡ agreed F E R W
       unfolding agreed
       agreed-rows b n d = rw (passed, ← painted, ← a, b, ← n, ← d)
 

@@ -32,11 +32,11 @@ pub record Tally (E : List ℕ) (k v a b c : ℕ) (s : Seen) (at : ℕ) : Type 0
   pub ac : Counting E k v (holdsTwo E a c) (s .ac) at
   pub bc : Counting E k v (holdsTwo E b c) (s .bc) at
 
-module _ {vertices : ℕ} {E scratch : List ℕ} (k v : ℕ) (x : Plain vertices E) (f : Filled E (4 * k) scratch) where
-  link : (P : ℕ → Bool) {n at : ℕ} → Counting E k v P n at → 0 < at → getD scratch (linksAt + (at - 1)) 0 ≡ latest (slot E) v (at - 1)
+module _ {vertices : ℕ} {E index : List ℕ} (k v : ℕ) (x : Plain vertices E) (f : Filled E (4 * k) index) where
+  link : (P : ℕ → Bool) {n at : ℕ} → Counting E k v P n at → 0 < at → getD index (linksAt + (at - 1)) 0 ≡ latest (slot E) v (at - 1)
   link P w l = next-link (f .index) (omega (arith, w .below)) (walk-key _ _ _ w l)
 
-  next : (P : ℕ → Bool) {n at to : ℕ} → Counting E k v P n at → 0 < at → to ≡ getD scratch (linksAt + (at - 1)) 0 → Counting E k v P (n + one (P ((at - 1) / 4))) to
+  next : (P : ℕ → Bool) {n at to : ℕ} → Counting E k v P n at → 0 < at → to ≡ getD index (linksAt + (at - 1)) 0 → Counting E k v P (n + one (P ((at - 1) / 4))) to
   next P w l e = rw (e, link P w l) (walk-next _ _ _ w l)
 
   few : (P : ℕ → Bool) {n at : ℕ} → k < length E / 4 → Counting E k v P n at → n ≤ 400000
@@ -46,18 +46,18 @@ module _ {vertices : ℕ} {E scratch : List ℕ} (k v : ℕ) (x : Plain vertices
   total P h w z = walk-end _ _ _ w (omega arith) ∙ elements-visits x P v k (omega arith)
 
   -- from the head, along each link, to the end
-  pub tally-start : {a b c at : ℕ} → v < vertices → at ≡ getD scratch v 0 → Tally E k v a b c (record { all = 0; ab = 0; ac = 0; bc = 0 }) at
+  pub tally-start : {a b c at : ℕ} → v < vertices → at ≡ getD index v 0 → Tally E k v a b c (record { all = 0; ab = 0; ac = 0; bc = 0 }) at
   tally-start h e = rw (e, f .index .heads v (omega (arith, x .most))) (record { all = walk-start _ _ _ _; ab = walk-start _ _ _ _; ac = walk-start _ _ _ _; bc = walk-start _ _ _ _ })
 
   module _ {a b c at : ℕ} {s : Seen} (t : Tally E k v a b c s at) where
     pub tally-few : k < length E / 4 → Few s
     tally-few h = record { all = few (holdsThree E a b c) h (t .all); ab = few (holdsTwo E a b) h (t .ab); ac = few (holdsTwo E a c) h (t .ac); bc = few (holdsTwo E b c) h (t .bc) }
 
-    pub tally-next : {s' : Seen} {to : ℕ} → 0 < at → s' ≡ noted (has E ((at - 1) / 4) a) (has E ((at - 1) / 4) b) (has E ((at - 1) / 4) c) s → to ≡ getD scratch (linksAt + (at - 1)) 0 → Tally E k v a b c s' to
+    pub tally-next : {s' : Seen} {to : ℕ} → 0 < at → s' ≡ noted (has E ((at - 1) / 4) a) (has E ((at - 1) / 4) b) (has E ((at - 1) / 4) c) s → to ≡ getD index (linksAt + (at - 1)) 0 → Tally E k v a b c s' to
     unfolding noted
     tally-next l e g = rw e (record { all = next (holdsThree E a b c) (t .all) l g; ab = next (holdsTwo E a b) (t .ab) l g; ac = next (holdsTwo E a c) (t .ac) l g; bc = next (holdsTwo E b c) (t .bc) l g })
 
-    pub tally-falls : {to : ℕ} → 0 < at → to ≡ getD scratch (linksAt + (at - 1)) 0 → to < at
+    pub tally-falls : {to : ℕ} → 0 < at → to ≡ getD index (linksAt + (at - 1)) 0 → to < at
     tally-falls l e = rw (e, link (holdsThree E a b c) (t .all) l) (omega (arith, latest-below (slot E) v (at - 1)))
 
     pub tally-end : k < length E / 4 → at ≤ 0 → Counted E k v a b c s

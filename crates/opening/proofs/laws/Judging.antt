@@ -4,7 +4,7 @@ use mathlib.Core.Bool.{Bool, true, false, _||_}
 use mathlib.Core.List.{List}
 use Prim.Native.Nat.{ℕ, _/_}
 use native.Mathlib.Omega.{arith}
-use lib.ListN.{length, replicate, length-replicate}
+use lib.ListN.{length}
 use lib.Ieee.{Float}
 use Rattle.opening.specs.declared.answer.Found.{Found}
 use Rattle.opening.specs.declared.answer.Found.the-variants.{At, Nowhere}
@@ -13,7 +13,7 @@ use Rattle.opening.specs.declared.answer.Verdict.the-variants.{Refused, 
 use Rattle.opening.specs.Search.{first}
 use Rattle.opening.specs.Causes.{wrongInput, wrongLent, noRoom, unusable, missing, double, same, third}
 use Rattle.opening.specs.Opening.{when, at, fitting, plain, late, judged}
-use Rattle.opening.specs.Scratch.{Blank, Plain, Coloured, Sifted, Judged, Settled}
+use Rattle.opening.specs.Scratch.{Clear, Ready, Plain, Coloured, Sifted, Judged, Settled}
 use Rattle.opening.proofs.laws.Passed.{plain-passed, roomy-passed}
 use Rattle.opening.proofs.laws.Verdicts.{garish-last}
 
@@ -90,17 +90,20 @@ module _ (F : List Float) (E : List ℕ) where
 -- ---- tests 6 to 8
 
 -- the verdict of tests 6 and 7 stands where it refuses
-pub judged-refused : {vertices n p : ℕ} {E scratch : List ℕ} {r : Verdict} → Sifted E r scratch → r ≡ Refused n p → Judged vertices E (Refused n p) scratch
+pub judged-refused : {vertices n p : ℕ} {E index paint : List ℕ} {r : Verdict} → Sifted E r index → r ≡ Refused n p → Clear paint → Judged vertices E (Refused n p) paint
 unfolding late
-judged-refused {vertices} {n} {p} {E} s e =
+judged-refused {vertices} {n} {p} {E} s e c =
     record {
       answer = sym (at-refused (first (same E) (length E / 4)) 6 _ _ n p (at-refused (first (third E) (length E / 4)) 7 Passed _ n p (λ h. clash h refl)) (sym (s .answer) ∙ e));
-      size = s .size;
+      size = c .size;
       painted = λ h. clash refl h;
     }
 
 -- and number 8 is next where they pass
-pub judged-coloured : {vertices : ℕ} {E old scratch : List ℕ} {f : Found} {q r : Verdict} → Sifted E q old → q ≡ Passed → Coloured vertices E f scratch → r ≡ at f 8 Passed → Judged vertices E r scratch
+pub sifted-ready : {E index : List ℕ} {r : Verdict} → Sifted E r index → r ≡ Passed → Ready E index
+sifted-ready s = s .ready
+
+pub judged-coloured : {vertices : ℕ} {E index paint : List ℕ} {f : Found} {q r : Verdict} → Sifted E q index → q ≡ Passed → Coloured vertices E f paint → r ≡ at f 8 Passed → Judged vertices E r paint
 judged-coloured {vertices} {E} {f = f} s p c e =
     let (a, b) = at-passed (first (same E) (length E / 4)) 6 (at (first (third E) (length E / 4)) 7 Passed) (sym (s .answer) ∙ p) in
     record {
@@ -111,32 +114,19 @@ judged-coloured {vertices} {E} {f = f} s p c e =
 
 -- ---- all tests
 
--- over any number, so that no list of 440,000 zeros is ever written out
-sized : (n : ℕ) (l : List ℕ) → l ≡ replicate n 0 → length l ≡ n
-sized n l e = rw (e, length-replicate)
-
-pub zeros-same : (n : ℕ) → replicate {A = ℕ} n 0 ≡ replicate n 0
-zeros-same n = refl
-
-pub zeros-count : (n : ℕ) → n ≡ length (replicate {A = ℕ} n 0)
-zeros-count n = sym (length-replicate n 0)
-
-pub blank-size : {scratch : List ℕ} → Blank scratch → length scratch ≡ 460000
-blank-size {scratch} b = sized 460000 scratch b
-
 module _ (F : List Float) (E : List ℕ) (points records rows : ℕ) where
-  pub settled-lengths : {n p : ℕ} {scratch : List ℕ} → fitting (length F) (length E) points records rows Passed ≡ Refused n p → length scratch ≡ 460000
-      → Settled F E points records rows (Refused n p) scratch
+  pub settled-lengths : {n p : ℕ} {paint : List ℕ} → fitting (length F) (length E) points records rows Passed ≡ Refused n p → Clear paint
+      → Settled F E points records rows (Refused n p) paint
   unfolding judged
-  settled-lengths {n} {p} e s = record { answer = sym (lengths-refused (length F) (length E) points records rows _ n p e); size = s; storable = λ h. clash refl h }
+  settled-lengths {n} {p} e s = record { answer = sym (lengths-refused (length F) (length E) points records rows _ n p e); size = s .size; storable = λ h. clash refl h }
 
-  pub settled-numbers : {n p : ℕ} {scratch : List ℕ} → fitting (length F) (length E) points records rows Passed ≡ Passed → plain F E Passed ≡ Refused n p → length scratch ≡ 460000
-      → Settled F E points records rows (Refused n p) scratch
+  pub settled-numbers : {n p : ℕ} {paint : List ℕ} → fitting (length F) (length E) points records rows Passed ≡ Passed → plain F E Passed ≡ Refused n p → Clear paint
+      → Settled F E points records rows (Refused n p) paint
   unfolding judged
   settled-numbers {n} {p} l e s =
       record {
         answer = sym (rw (lengths-next (length F) (length E) points records rows (lengths-passed (length F) (length E) points records rows l)) (numbers-refused F E _ n p e));
-        size = s;
+        size = s .size;
         storable = λ h. clash refl h;
       }
 
@@ -151,9 +141,9 @@ module _ (F : List Float) (E : List ℕ) (points records rows : ℕ) where
     pub plain-judged : Plain (length F / 3) E
     plain-judged = plain-passed (length F) E right-input (numbers-passed F E e .there) (numbers-passed F E e .single)
 
-    pub settled-judged : {r : Verdict} {scratch : List ℕ} → Judged (length F / 3) E r scratch → Settled F E points records rows r scratch
+    pub settled-judged : {r : Verdict} {paint : List ℕ} → Judged (length F / 3) E r paint → Settled F E points records rows r paint
     unfolding judged
-    settled-judged {r} {scratch} j =
+    settled-judged {r} {paint} j =
         record {
           answer = j .answer ∙ sym (rw (lengths-next (length F) (length E) points records rows lengths, numbers-next F E (numbers-passed F E e)) refl);
           size = j .size;

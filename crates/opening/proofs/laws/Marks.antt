@@ -28,46 +28,46 @@ set-keeps (x ∷ l) zero (suc j) a d e = e
 set-keeps (x ∷ l) (suc i) zero a d e = e
 set-keeps (x ∷ l) (suc i) (suc j) a d e = set-keeps l i j a d e
 
-module _ (scratch : List ℕ) (v u : ℕ) (flags : List ℕ) where
+module _ (paint : List ℕ) (v u : ℕ) (flags : List ℕ) where
   -- the three ways through the code
-  pub marked-not : v ≤ u → flags ≡ marked scratch v u flags
+  pub marked-not : v ≤ u → flags ≡ marked paint v u flags
   unfolding marked
   marked-not h = rw (le-ltb u v h)
 
-  pub marked-set : {c : ℕ} → u < v → c ≡ colourIn scratch u → set flags c 1 ≡ marked scratch v u flags
+  pub marked-set : {c : ℕ} → u < v → c ≡ colourIn paint u → set flags c 1 ≡ marked paint v u flags
   unfolding marked
   marked-set h e = rw (lt-ltb u v h, e)
 
-  pub marked-out : {c : ℕ} → u < v → c ≡ colourIn scratch u → length flags ≤ c → flags ≡ marked scratch v u flags
+  pub marked-out : {c : ℕ} → u < v → c ≡ colourIn paint u → length flags ≤ c → flags ≡ marked paint v u flags
   marked-out {c} h e l = sym (set-out flags c 1 l) ∙ marked-set h e
 
   -- what it does to the flags
-  marked-length : length (marked scratch v u flags) ≡ length flags
+  marked-length : length (marked paint v u flags) ≡ length flags
   unfolding marked
   marked-length = go (ltb u v)
     where
-      go : (b : Bool) → length (cond b (set flags (colourIn scratch u) 1) flags) ≡ length flags
+      go : (b : Bool) → length (cond b (set flags (colourIn paint u) 1) flags) ≡ length flags
       go true = rw length-set
       go false = refl
 
-  marked-here : u < v → colourIn scratch u < length flags → getD (marked scratch v u flags) (colourIn scratch u) 0 ≡ 1
+  marked-here : u < v → colourIn paint u < length flags → getD (marked paint v u flags) (colourIn paint u) 0 ≡ 1
   marked-here h l = rw (← marked-set h refl, getD-set-same)
 
   -- every other flag is as it was
-  marked-other : (c : ℕ) → (u < v → colourIn scratch u ≡ c → ⊥) → getD (marked scratch v u flags) c 0 ≡ getD flags c 0
+  marked-other : (c : ℕ) → (u < v → colourIn paint u ≡ c → ⊥) → getD (marked paint v u flags) c 0 ≡ getD flags c 0
   marked-other c d = go (decLt u v)
     where
-      go : Dec (u < v) → getD (marked scratch v u flags) c 0 ≡ getD flags c 0
-      go (yes h) = rw (← marked-set h refl) (getD-set-other flags (colourIn scratch u) c 1 0 (λ e. d h (sym e)))
+      go : Dec (u < v) → getD (marked paint v u flags) c 0 ≡ getD flags c 0
+      go (yes h) = rw (← marked-set h refl) (getD-set-other flags (colourIn paint u) c 1 0 (λ e. d h (sym e)))
       go (no h) = rw (← marked-not (omega arith))
 
   -- and a flag that is set stays set
-  marked-keeps : (c : ℕ) → getD flags c 0 ≡ 1 → getD (marked scratch v u flags) c 0 ≡ 1
+  marked-keeps : (c : ℕ) → getD flags c 0 ≡ 1 → getD (marked paint v u flags) c 0 ≡ 1
   unfolding marked
   marked-keeps c e = go (ltb u v)
     where
-      go : (b : Bool) → getD (cond b (set flags (colourIn scratch u) 1) flags) c 0 ≡ 1
-      go true = set-keeps flags (colourIn scratch u) c 1 0 e
+      go : (b : Bool) → getD (cond b (set flags (colourIn paint u) 1) flags) c 0 ≡ 1
+      go true = set-keeps flags (colourIn paint u) c 1 0 e
       go false = e
 
 -- ---- the four marks of an element
@@ -76,15 +76,15 @@ module _ (scratch : List ℕ) (v u : ℕ) (flags : List ℕ) where
 pub vertex-few : {vertices r : ℕ} {E : List ℕ} (k q : ℕ) → Plain vertices E → r ≡ vertex E k q → 4 * k + 3 < length E → q ≤ 3 → r < 20000
 vertex-few k q p e h l = omega (arith, p .there (4 * k + q) (omega arith), p .most)
 
-module _ (E scratch : List ℕ) (v k : ℕ) where
+module _ (E paint : List ℕ) (v k : ℕ) where
   -- what each of them keeps, all four keep
-  marked-all : (P : List ℕ → Type 0) → ((q : ℕ) → q < 4 → (flags : List ℕ) → P flags → P (marked scratch v (vertex E k q) flags)) → (flags : List ℕ) → P flags → P (markedAll E scratch v k flags)
+  marked-all : (P : List ℕ → Type 0) → ((q : ℕ) → q < 4 → (flags : List ℕ) → P flags → P (marked paint v (vertex E k q) flags)) → (flags : List ℕ) → P flags → P (markedAll E paint v k flags)
   unfolding markedAll
   marked-all P step flags p = step 3 (omega arith) _ (step 2 (omega arith) _ (step 1 (omega arith) _ (step 0 (omega arith) flags p)))
 
 -- the flags show the colours of the smaller vertices of element k
 abbrev Shown : List ℕ → List ℕ → ℕ → ℕ → List ℕ → Type 0
-Shown E scratch v k flags = (q : ℕ) → q < 4 → vertex E k q < v → getD flags (colourIn scratch (vertex E k q)) 0 ≡ 1
+Shown E paint v k flags = (q : ℕ) → q < 4 → vertex E k q < v → getD flags (colourIn paint (vertex E k q)) 0 ≡ 1
 
 -- there are 64 flags, and each that is set shows the colour of a smaller neighbour
 record Sound (E : List ℕ) (v : ℕ) (flags : List ℕ) : Type 0 where
@@ -92,36 +92,36 @@ record Sound (E : List ℕ) (v : ℕ) (flags : List ℕ) : Type 0 where
   only : (c : ℕ) → (getD flags c 0 ≡ 0 → ⊥) → taken E (colours E v) v c ≡ true
 
 -- a walk that is at `at`: the slots of v from there on are behind it
-pub record Walked (E scratch : List ℕ) (v at : ℕ) (flags : List ℕ) : Type 0 where
+pub record Walked (E paint : List ℕ) (v at : ℕ) (flags : List ℕ) : Type 0 where
   pub below : at ≤ length E
   here : 0 < at → slot E (at - 1) ≡ v
   sound : Sound E v flags
-  past : (i : ℕ) → at ≤ i → i < length E → slot E i ≡ v → Shown E scratch v (i / 4) flags
+  past : (i : ℕ) → at ≤ i → i < length E → slot E i ≡ v → Shown E paint v (i / 4) flags
 
 -- the element at which the walk is holds v, so its marks are sound, and it is shown
-module _ (E scratch : List ℕ) (v k : ℕ) (painted : Painted E v scratch) where
-  sound-step : k < length E / 4 → has E k v ≡ true → (flags : List ℕ) → Sound E v flags → Sound E v (markedAll E scratch v k flags)
-  sound-step there holds = marked-all E scratch v k (Sound E v) (λ q h f r. record { size = marked-length scratch v (vertex E k q) f ∙ r .size; only = λ c d. go q h f r c d (decLt (vertex E k q) v) (ℕ-discrete (colourIn scratch (vertex E k q)) c) })
+module _ (E paint : List ℕ) (v k : ℕ) (painted : Painted E v paint) where
+  sound-step : k < length E / 4 → has E k v ≡ true → (flags : List ℕ) → Sound E v flags → Sound E v (markedAll E paint v k flags)
+  sound-step there holds = marked-all E paint v k (Sound E v) (λ q h f r. record { size = marked-length paint v (vertex E k q) f ∙ r .size; only = λ c d. go q h f r c d (decLt (vertex E k q) v) (ℕ-discrete (colourIn paint (vertex E k q)) c) })
     where
-      go : (q : ℕ) → q < 4 → (f : List ℕ) → Sound E v f → (c : ℕ) → (getD (marked scratch v (vertex E k q) f) c 0 ≡ 0 → ⊥) → Dec (vertex E k q < v) → Dec (colourIn scratch (vertex E k q) ≡ c) → taken E (colours E v) v c ≡ true
+      go : (q : ℕ) → q < 4 → (f : List ℕ) → Sound E v f → (c : ℕ) → (getD (marked paint v (vertex E k q) f) c 0 ≡ 0 → ⊥) → Dec (vertex E k q < v) → Dec (colourIn paint (vertex E k q) ≡ c) → taken E (colours E v) v c ≡ true
       go q h f r c d (yes l) (yes e) = taken-has E (colours E v) v c (record { element = k; place = q; there = there; four = h; holds = holds; less = l; colour = sym (painted .colour (vertex E k q)) ∙ e })
-      go q h f r c d (yes l) (no e) = r .only c (λ z. d (marked-other scratch v (vertex E k q) f c (λ i. e) ∙ z))
-      go q h f r c d (no l) e = r .only c (λ z. d (marked-other scratch v (vertex E k q) f c (λ i. absurd (l i)) ∙ z))
+      go q h f r c d (yes l) (no e) = r .only c (λ z. d (marked-other paint v (vertex E k q) f c (λ i. e) ∙ z))
+      go q h f r c d (no l) e = r .only c (λ z. d (marked-other paint v (vertex E k q) f c (λ i. absurd (l i)) ∙ z))
 
-  shown-step : (flags : List ℕ) → length flags ≡ 64 → Shown E scratch v k (markedAll E scratch v k flags)
+  shown-step : (flags : List ℕ) → length flags ≡ 64 → Shown E paint v k (markedAll E paint v k flags)
   unfolding markedAll
   shown-step flags s = go
     where
-      put : (q : ℕ) (f : List ℕ) → length f ≡ 64 → vertex E k q < v → getD (marked scratch v (vertex E k q) f) (colourIn scratch (vertex E k q)) 0 ≡ 1
-      put q f s l = marked-here scratch v (vertex E k q) f l (omega (arith, painted .colour (vertex E k q), painted .small (vertex E k q) l))
+      put : (q : ℕ) (f : List ℕ) → length f ≡ 64 → vertex E k q < v → getD (marked paint v (vertex E k q) f) (colourIn paint (vertex E k q)) 0 ≡ 1
+      put q f s l = marked-here paint v (vertex E k q) f l (omega (arith, painted .colour (vertex E k q), painted .small (vertex E k q) l))
 
-      long : (q : ℕ) (f : List ℕ) → length f ≡ 64 → length (marked scratch v (vertex E k q) f) ≡ 64
-      long q f s = marked-length scratch v (vertex E k q) f ∙ s
+      long : (q : ℕ) (f : List ℕ) → length f ≡ 64 → length (marked paint v (vertex E k q) f) ≡ 64
+      long q f s = marked-length paint v (vertex E k q) f ∙ s
 
-      keep : (q : ℕ) (f : List ℕ) (c : ℕ) → getD f c 0 ≡ 1 → getD (marked scratch v (vertex E k q) f) c 0 ≡ 1
-      keep q = marked-keeps scratch v (vertex E k q)
+      keep : (q : ℕ) (f : List ℕ) (c : ℕ) → getD f c 0 ≡ 1 → getD (marked paint v (vertex E k q) f) c 0 ≡ 1
+      keep q = marked-keeps paint v (vertex E k q)
 
-      go : (q : ℕ) → q < 4 → vertex E k q < v → getD (markedAll E scratch v k flags) (colourIn scratch (vertex E k q)) 0 ≡ 1
+      go : (q : ℕ) → q < 4 → vertex E k q < v → getD (markedAll E paint v k flags) (colourIn paint (vertex E k q)) 0 ≡ 1
       go zero h l = keep 3 _ _ (keep 2 _ _ (keep 1 _ _ (put 0 flags s l)))
       go (suc zero) h l = keep 3 _ _ (keep 2 _ _ (put 1 _ (long 0 flags s) l))
       go (suc (suc zero)) h l = keep 3 _ _ (put 2 _ (long 1 _ (long 0 flags s)) l)
@@ -129,8 +129,8 @@ module _ (E scratch : List ℕ) (v k : ℕ) (painted : Painted E v scratch) wher
       go (suc (suc (suc (suc q)))) h l = absurd (omega arith)
 
 -- what is shown stays
-shown-kept : (E scratch : List ℕ) (v k j : ℕ) (flags : List ℕ) → Shown E scratch v k flags → Shown E scratch v k (markedAll E scratch v j flags)
-shown-kept E scratch v k j flags s q h l = marked-all E scratch v j (λ f. getD f (colourIn scratch (vertex E k q)) 0 ≡ 1) (λ p b f e. marked-keeps scratch v (vertex E j p) f _ e) flags (s q h l)
+shown-kept : (E paint : List ℕ) (v k j : ℕ) (flags : List ℕ) → Shown E paint v k flags → Shown E paint v k (markedAll E paint v j flags)
+shown-kept E paint v k j flags s q h l = marked-all E paint v j (λ f. getD f (colourIn paint (vertex E k q)) 0 ≡ 1) (λ p b f e. marked-keeps paint v (vertex E j p) f _ e) flags (s q h l)
 
 -- ---- the walk
 
@@ -143,30 +143,30 @@ slot-at E i =
 slot-has : (E : List ℕ) (v i : ℕ) → slot E i ≡ v → has E (i / 4) v ≡ true
 slot-has E v i e = rw (slot-at E i ∙ e) at (has-place E (i / 4) (i % 4) (omega arith))
 
-module _ {E scratch : List ℕ} {v : ℕ} where
+module _ {E paint : List ℕ} {v : ℕ} where
   -- what is left of the walk are the places of v below n
-  walked-to : (n at : ℕ) {flags : List ℕ} → n ≤ length E → at ≡ latest (slot E) v n → Sound E v flags → ((i : ℕ) → n ≤ i → i < length E → slot E i ≡ v → Shown E scratch v (i / 4) flags) → Walked E scratch v at flags
+  walked-to : (n at : ℕ) {flags : List ℕ} → n ≤ length E → at ≡ latest (slot E) v n → Sound E v flags → ((i : ℕ) → n ≤ i → i < length E → slot E i ≡ v → Shown E paint v (i / 4) flags) → Walked E paint v at flags
   walked-to n at {flags} h e s past = record { below = omega (arith, latest-below (slot E) v n); here = λ l. latest-some (slot E) v n (at - 1) (omega arith) .1; sound = s; past = λ i l m k. go i l m k (decLt i n) }
     where
-      go : (i : ℕ) → at ≤ i → i < length E → slot E i ≡ v → Dec (i < n) → Shown E scratch v (i / 4) flags
+      go : (i : ℕ) → at ≤ i → i < length E → slot E i ≡ v → Dec (i < n) → Shown E paint v (i / 4) flags
       go i l m k (yes b) = absurd (latest-between (slot E) v n i (omega arith) b k)
       go i l m k (no b) = past i (omega arith) m k
 
   -- at the head nothing is behind the walk, and no flag is set
-  pub walked-start : {vertices at : ℕ} {flags : List ℕ} → Plain vertices E → Ready E scratch → v < vertices → at ≡ getD scratch v 0 → flags ≡ Flags → Walked E scratch v at flags
+  pub walked-start : {vertices at : ℕ} {index flags : List ℕ} → Plain vertices E → Ready E index → v < vertices → at ≡ getD index v 0 → flags ≡ Flags → Walked E paint v at flags
   walked-start {at = at} {flags} p r h e f = walked-to (length E) at (omega arith) (e ∙ r .index .heads v (omega (arith, p .most))) (record { size = ap length f; only = λ c d. absurd (d (ap (λ l. getD l c 0) f ∙ clear c (decLt c 64))) }) (λ i l m k. absurd (omega arith))
     where
       clear : (c : ℕ) → Dec (c < 64) → getD Flags c 0 ≡ 0
       clear c (yes l) = getD-replicate 64 c 0 0 l
       clear c (no l) = List·getD-eq-default Flags 0 {n = c} (omega arith)
 
-  module _ {vertices at : ℕ} {flags : List ℕ} (p : Plain vertices E) (r : Ready E scratch) (c : Painted E v scratch) (w : Walked E scratch v at flags) (more : 0 < at) where
+  module _ {vertices at : ℕ} {index flags : List ℕ} (p : Plain vertices E) (r : Ready E index) (c : Painted E v paint) (w : Walked E paint v at flags) (more : 0 < at) where
     -- the next place is smaller
-    pub walked-less : {next : ℕ} → next ≡ getD scratch (linksAt + (at - 1)) 0 → next < at
+    pub walked-less : {next : ℕ} → next ≡ getD index (linksAt + (at - 1)) 0 → next < at
     walked-less e = omega (arith, next-link (r .index) (omega (arith, w .below)) (w .here more), latest-below (slot E) v (at - 1))
 
-    pub walked-step : {next : ℕ} {after : List ℕ} → next ≡ getD scratch (linksAt + (at - 1)) 0 → after ≡ markedAll E scratch v ((at - 1) / 4) flags → Walked E scratch v next after
-    walked-step {next} e f = rw f (walked-to (at - 1) next (omega (arith, w .below)) (e ∙ next-link (r .index) (omega (arith, w .below)) (w .here more)) (sound-step E scratch v ((at - 1) / 4) c there holds flags (w .sound)) (λ i l m k. go i l m k (ℕ-discrete i (at - 1))))
+    pub walked-step : {next : ℕ} {after : List ℕ} → next ≡ getD index (linksAt + (at - 1)) 0 → after ≡ markedAll E paint v ((at - 1) / 4) flags → Walked E paint v next after
+    walked-step {next} e f = rw f (walked-to (at - 1) next (omega (arith, w .below)) (e ∙ next-link (r .index) (omega (arith, w .below)) (w .here more)) (sound-step E paint v ((at - 1) / 4) c there holds flags (w .sound)) (λ i l m k. go i l m k (ℕ-discrete i (at - 1))))
       where
         there : (at - 1) / 4 < length E / 4
         there = omega (arith, w .below, p .whole)
@@ -174,15 +174,15 @@ module _ {E scratch : List ℕ} {v : ℕ} where
         holds : has E ((at - 1) / 4) v ≡ true
         holds = slot-has E v (at - 1) (w .here more)
 
-        go : (i : ℕ) → at - 1 ≤ i → i < length E → slot E i ≡ v → Dec (i ≡ at - 1) → Shown E scratch v (i / 4) (markedAll E scratch v ((at - 1) / 4) flags)
-        go i l m k (yes e) = rw e (shown-step E scratch v ((at - 1) / 4) c flags (w .sound .size))
-        go i l m k (no d) = shown-kept E scratch v (i / 4) ((at - 1) / 4) flags (w .past i (omega arith) m k)
+        go : (i : ℕ) → at - 1 ≤ i → i < length E → slot E i ≡ v → Dec (i ≡ at - 1) → Shown E paint v (i / 4) (markedAll E paint v ((at - 1) / 4) flags)
+        go i l m k (yes e) = rw e (shown-step E paint v ((at - 1) / 4) c flags (w .sound .size))
+        go i l m k (no d) = shown-kept E paint v (i / 4) ((at - 1) / 4) flags (w .past i (omega arith) m k)
 
-  pub walked-size : {at : ℕ} {flags flags' : List ℕ} → Walked E scratch v at flags → flags' ≡ Flags → length flags ≡ length flags'
+  pub walked-size : {at : ℕ} {flags flags' : List ℕ} → Walked E paint v at flags → flags' ≡ Flags → length flags ≡ length flags'
   walked-size w f = rw f (w .sound .size)
 
   -- a walk that is done has set the flag of every taken colour
-  pub walked-done : {vertices at : ℕ} {flags : List ℕ} → Plain vertices E → Painted E v scratch → Walked E scratch v at flags → at ≤ 0 → Marks E v flags
+  pub walked-done : {vertices at : ℕ} {flags : List ℕ} → Plain vertices E → Painted E v paint → Walked E paint v at flags → at ≤ 0 → Marks E v flags
   walked-done {vertices} {at} {flags} p c w l = record { size = w .sound .size; set = λ d h. go d (ℕ-discrete (getD flags d 0) 0) }
     where
       met : (d : ℕ) → Neighbour E (colours E v) v d → getD flags d 0 ≡ 1
@@ -191,7 +191,7 @@ module _ {E scratch : List ℕ} {v : ℕ} where
           let i = 4 * (n .element) + q .0 in
           let e : i / 4 ≡ n .element = omega (arith, q .1) in
           let u = vertex E (n .element) (n .place) in
-          let k : colourIn scratch u ≡ d = c .colour u ∙ n .colour in
+          let k : colourIn paint u ≡ d = c .colour u ∙ n .colour in
           rw (← k) ((rw e at (w .past i (omega arith) (omega (arith, p .whole, n .there, q .1)) (q .2))) (n .place) (n .four) (n .less))
 
       none : (d : ℕ) → getD flags d 0 ≡ 0 → (b : Bool) → taken E (colours E v) v d ≡ b → b ≡ false

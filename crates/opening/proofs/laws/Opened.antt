@@ -1,4 +1,4 @@
--- The stored tables are the opened mesh, laid out: the colours in the scratch table are those of Algorithm 2.
+-- The stored tables are the opened mesh, laid out: the colours in the table of colours are those of Algorithm 2.
 use mathlib.Core.Path.{_≡_, ap, _∙_, fun-ext}
 use mathlib.Core.List.{List}
 use Prim.Native.Nat.{ℕ, _/_}
@@ -13,25 +13,25 @@ use Rattle.opening.specs.declared.answer.Opened.the-variants as opened
 use Rattle.opening.specs.Opening.{initial, openedMesh, verdictOn, lent, Opens}
 use Rattle.opening.specs.Scratch.{Painted, colourIn}
 
-pub colours-stored : {E scratch : List ℕ} {n : ℕ} → Painted E n scratch → colourIn scratch ≡ (λ v. getD (colours E n) v 0)
+pub colours-stored : {E paint : List ℕ} {n : ℕ} → Painted E n paint → colourIn paint ≡ (λ v. getD (colours E n) v 0)
 colours-stored p = fun-ext (p .colour)
 
 -- what the three stores leave
-pub record Stored (F : List Float) (E scratch : List ℕ) (N lp lv lr : ℕ) (t : Lent) : Type 0 where
+pub record Stored (F : List Float) (E paint : List ℕ) (N lp lv lr : ℕ) (t : Lent) : Type 0 where
   pub points : t .points ≡ padded lp noFloat (flat pointCells (upTo (pointAt F) (length F / 3)))
-  pub records : t .records ≡ padded lv 0 (flat recordCells (upTo (λ v. initial (colourIn scratch v)) (length F / 3)))
-  pub rows : t .rows ≡ padded lr 0 (flat rowCells (upTo (rootOf N (colourIn scratch) E) (length E / 4)))
+  pub records : t .records ≡ padded lv 0 (flat recordCells (upTo (λ v. initial (colourIn paint v)) (length F / 3)))
+  pub rows : t .rows ≡ padded lr 0 (flat rowCells (upTo (rootOf N (colourIn paint) E) (length E / 4)))
 
-pub opened-laid : {F : List Float} {E scratch : List ℕ} {N lp lv lr : ℕ} {t : Lent} → Painted E (length F / 3) scratch → N ≡ largest (colours E (length F / 3)) → Stored F E scratch N lp lv lr t
+pub opened-laid : {F : List Float} {E paint : List ℕ} {N lp lv lr : ℕ} {t : Lent} → Painted E (length F / 3) paint → N ≡ largest (colours E (length F / 3)) → Stored F E paint N lp lv lr t
     → t ≡ laid (openedMesh F E) lp lv lr
 unfolding openedMesh laid
-opened-laid {F} {E} {scratch} {N} {lp} {lv} {lr} p n s = λ i. record { points = s .points i; records = (s .records ∙ records) i; rows = (s .rows ∙ rows) i }
+opened-laid {F} {E} {paint} {N} {lp} {lv} {lr} p n s = λ i. record { points = s .points i; records = (s .records ∙ records) i; rows = (s .rows ∙ rows) i }
   where
-    records : padded lv 0 (flat recordCells (upTo (λ v. initial (colourIn scratch v)) (length F / 3)))
+    records : padded lv 0 (flat recordCells (upTo (λ v. initial (colourIn paint v)) (length F / 3)))
         ≡ padded lv 0 (flat recordCells (upTo (λ v. initial (getD (colours E (length F / 3)) v 0)) (length F / 3)))
     records = ap (λ (f : ℕ → ℕ). padded lv 0 (flat recordCells (upTo (λ v. initial (f v)) (length F / 3)))) (colours-stored p)
 
-    rows : padded lr 0 (flat rowCells (upTo (rootOf N (colourIn scratch) E) (length E / 4)))
+    rows : padded lr 0 (flat rowCells (upTo (rootOf N (colourIn paint) E) (length E / 4)))
         ≡ padded lr 0 (flat rowCells (upTo (rootOf (largest (colours E (length F / 3))) (λ v. getD (colours E (length F / 3)) v 0) E) (length E / 4)))
     rows =
         ap (λ (f : ℕ → ℕ). padded lr 0 (flat rowCells (upTo (rootOf N f E) (length E / 4)))) (colours-stored p)

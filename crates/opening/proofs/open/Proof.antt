@@ -1,16 +1,16 @@
 use mathlib.Core.Path.{refl, sym, _∙_}
-use Rattle.opening.specs.Scratch.{scratchLength}
-use Rattle.opening.proofs.laws.Judging.{zeros-same, zeros-count}
+use Rattle.opening.specs.Scratch.{paintLength}
+use Rattle.opening.proofs.laws.Indexing.{zeros-clear, zeros-count}
 use Rattle.opening.proofs.laws.Opened.{opens-refused, opens-passed}
 use borrow.Author.Needs.{needs}
 use Rattle.opening.proofs.open.Statement.{statement}
 use Rattle.opening.proofs.open.Tie as tie
 
 slice-aggregate-judge : tie.Need-slice-aggregate-judge
-slice-aggregate-judge c = zeros-count scratchLength
+slice-aggregate-judge c = zeros-count paintLength
 
 judge-requires : tie.Need-judge-requires
-judge-requires c κs = zeros-same scratchLength
+judge-requires c κs = zeros-clear paintLength refl
 
 enum-known-verdict : tie.Need-enum-known-verdict
 enum-known-verdict c = c .match .keys1

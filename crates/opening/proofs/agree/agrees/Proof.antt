@@ -1,7 +1,7 @@
--- `opening::agree::agrees` meets its contract: test 1 refuses lengths that are too large, and where the tests pass, the scratch table has the colours of Algorithm 2. Assumes nothing.
-use mathlib.Core.Path.{sym}
-use Rattle.opening.specs.Scratch.{scratchLength}
-use Rattle.opening.proofs.laws.Judging.{zeros-same, zeros-count}
+-- `opening::agree::agrees` meets its contract: test 1 refuses lengths that are too large, and where the tests pass, the table has the colours of Algorithm 2. Assumes nothing.
+use mathlib.Core.Path.{refl, sym}
+use Rattle.opening.specs.Scratch.{paintLength}
+use Rattle.opening.proofs.laws.Indexing.{zeros-clear, zeros-count}
 use borrow.Author.Needs.{needs}
 use borrow.Author.Tests.{not-true, not-false}
 use Rattle.opening.proofs.laws.Agree.{agreed-long, agreed-many, agreed-refused, agreed-records, agreed-rows}
@@ -24,10 +24,10 @@ mul-judge-3 : tie.Need-mul-judge-3
 mul-judge-3 c = search needs
 
 slice-aggregate-judge : tie.Need-slice-aggregate-judge
-slice-aggregate-judge c = zeros-count scratchLength
+slice-aggregate-judge c = zeros-count paintLength
 
 judge-requires : tie.Need-judge-requires
-judge-requires c κs = zeros-same scratchLength
+judge-requires c κs = zeros-clear paintLength refl
 
 enum-told : tie.Need-enum-told
 enum-told c = c .match .keys1

@@ -12,10 +12,10 @@ use Rattle.opening.proofs.agree.records_agree.Statement.{statement}
 use Rattle.opening.proofs.agree.records_agree.Tie as tie
 
 abbrev Inv-loop : tie.InvT-loop
-Inv-loop scratch vertices records v₀ v = Agreeing (λ v. sameRecord (recordAt records v) (initial (colourIn scratch v))) vertices v
+Inv-loop paint vertices records v₀ v = Agreeing (λ v. sameRecord (recordAt records v) (initial (colourIn paint v))) vertices v
 
 abbrev μ-loop : tie.MeasureT-loop
-μ-loop scratch vertices records v₀ v = vertices - v
+μ-loop paint vertices records v₀ v = vertices - v
 
 loop-holds : tie.Need-loop-holds Inv-loop μ-loop
 loop-holds c = agreeing-start

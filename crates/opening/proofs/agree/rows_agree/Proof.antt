@@ -12,10 +12,10 @@ use Rattle.opening.proofs.agree.rows_agree.Statement.{statement}
 use Rattle.opening.proofs.agree.rows_agree.Tie as tie
 
 abbrev Inv-loop : tie.InvT-loop
-Inv-loop elements scratch vertices n rows count k₀ k = Agreeing (λ k. sameRoot (rowAt rows k) (rootOf n (colourIn scratch) elements k)) count k
+Inv-loop elements paint vertices n rows count k₀ k = Agreeing (λ k. sameRoot (rowAt rows k) (rootOf n (colourIn paint) elements k)) count k
 
 abbrev μ-loop : tie.MeasureT-loop
-μ-loop elements scratch vertices n rows count k₀ k = count - k
+μ-loop elements paint vertices n rows count k₀ k = count - k
 
 loop-holds : tie.Need-loop-holds Inv-loop μ-loop
 loop-holds c = agreeing-start

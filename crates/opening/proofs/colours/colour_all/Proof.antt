@@ -1,4 +1,4 @@
--- `opening::colours::colour_all` meets its contract. The invariant: the first v vertices are coloured, none over 63, and the index is as it was. Assumes nothing.
+-- `opening::colours::colour_all` meets its contract. The invariant: the first v vertices are coloured, none over 63. Assumes nothing.
 use Prim.Native.Nat.{_-_}
 use borrow.Author.Needs.{needs}
 use Rattle.opening.proofs.laws.Painted.{Colouring, colouring-start, colouring-step, colouring-stop, colouring-done}
@@ -6,16 +6,16 @@ use Rattle.opening.proofs.colours.colour_all.Statement.{statement}
 use Rattle.opening.proofs.colours.colour_all.Tie as tie
 
 abbrev Inv-loop : tie.InvT-loop
-Inv-loop elements vertices scratch₀ v₀ scratch v = Colouring vertices elements v scratch
+Inv-loop elements vertices index paint₀ v₀ paint v = Colouring vertices elements v paint
 
 abbrev μ-loop : tie.MeasureT-loop
-μ-loop elements vertices scratch₀ v₀ scratch v = vertices - v
+μ-loop elements vertices index paint₀ v₀ paint v = vertices - v
 
 loop-holds : tie.Need-loop-holds Inv-loop μ-loop
 loop-holds c = search (colouring-start, needs)
 
 colour-at-requires : tie.Need-colour-at-requires Inv-loop μ-loop
-colour-at-requires c κs = search needs
+colour-at-requires c κs = (search needs, (search needs, (search needs, (search needs, search needs))))
 
 same-length : tie.Need-same-length Inv-loop μ-loop
 same-length c = search needs
@@ -23,17 +23,14 @@ same-length c = search needs
 returns : tie.Need-returns Inv-loop μ-loop
 returns c = search (colouring-stop, needs)
 
-cast-scratch : tie.Need-cast-scratch Inv-loop μ-loop
-cast-scratch c = search needs
+cast-paint : tie.Need-cast-paint Inv-loop μ-loop
+cast-paint c = search needs
 
-add-scratch : tie.Need-add-scratch Inv-loop μ-loop
-add-scratch c = search needs
+mul-paint : tie.Need-mul-paint Inv-loop μ-loop
+mul-paint c = search needs
 
-mul-scratch : tie.Need-mul-scratch Inv-loop μ-loop
-mul-scratch c = search needs
-
-slice-write-scratch : tie.Need-slice-write-scratch Inv-loop μ-loop
-slice-write-scratch c = search needs
+slice-write-paint : tie.Need-slice-write-paint Inv-loop μ-loop
+slice-write-paint c = search needs
 
 add-v : tie.Need-add-v Inv-loop μ-loop
 add-v c = search needs
@@ -60,10 +57,9 @@ colour-all-spec =
     colour-at-requires
     same-length
     returns
-    cast-scratch
-    add-scratch
-    mul-scratch
-    slice-write-scratch
+    cast-paint
+    mul-paint
+    slice-write-paint
     add-v
     loop-less
     loop-again

@@ -9,7 +9,7 @@ slice-aggregate-mark-neighbours : tie.Need-slice-aggregate-mark-neighbours
 slice-aggregate-mark-neighbours c = search needs
 
 mark-neighbours-requires : tie.Need-mark-neighbours-requires
-mark-neighbours-requires c κs = (search needs, (search needs, (search needs, (search needs, refl))))
+mark-neighbours-requires c κs = (search needs, (search needs, (search needs, (search needs, (search needs, refl)))))
 
 slice-aggregate-first-free : tie.Need-slice-aggregate-first-free
 slice-aggregate-first-free c = search needs

@@ -11,25 +11,19 @@ use Rattle.opening.proofs.colours.largest_colour.Statement.{statement}
 use Rattle.opening.proofs.colours.largest_colour.Tie as tie
 
 abbrev Inv-loop : tie.InvT-loop
-Inv-loop elements scratch vertices most₀ v₀ most v = (v ≤ vertices) × (most ≡ largest (colours elements v))
+Inv-loop elements paint vertices most₀ v₀ most v = (v ≤ vertices) × (most ≡ largest (colours elements v))
 
 abbrev μ-loop : tie.MeasureT-loop
-μ-loop elements scratch vertices most₀ v₀ most v = vertices - v
+μ-loop elements paint vertices most₀ v₀ most v = vertices - v
 
 loop-holds : tie.Need-loop-holds Inv-loop μ-loop
 loop-holds c = (search needs, sym (largest-none (c .args .elements .now)))
-
-add-if1 : tie.Need-add-if1 Inv-loop μ-loop
-add-if1 c = search needs
 
 mul-if1 : tie.Need-mul-if1 Inv-loop μ-loop
 mul-if1 c = search needs
 
 shared-slice-read-if1 : tie.Need-shared-slice-read-if1 Inv-loop μ-loop
 shared-slice-read-if1 c = search needs
-
-add-most : tie.Need-add-most Inv-loop μ-loop
-add-most c = search needs
 
 mul-most : tie.Need-mul-most Inv-loop μ-loop
 mul-most c = search needs
@@ -60,10 +54,8 @@ largest-colour-spec =
     Inv-loop
     μ-loop
     loop-holds
-    add-if1
     mul-if1
     shared-slice-read-if1
-    add-most
     mul-most
     shared-slice-read-most
     add-v

@@ -4,9 +4,6 @@ use Rattle.opening.proofs.laws.Marks.{marked-not, marked-set, marked-ou
 use Rattle.opening.proofs.colours.mark.Statement.{statement}
 use Rattle.opening.proofs.colours.mark.Tie as tie
 
-add-wide : tie.Need-add-wide
-add-wide c = search needs
-
 mul-wide : tie.Need-mul-wide
 mul-wide c = search needs
 
@@ -38,7 +35,6 @@ pub mark-spec : {M : Type 1} → statement M
 mark-spec =
     tie.close
     (tie.spec
-    add-wide
     mul-wide
     shared-slice-read-wide
     wide-requires

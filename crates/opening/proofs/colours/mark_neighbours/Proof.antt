@@ -5,10 +5,10 @@ use Rattle.opening.proofs.colours.mark_neighbours.Statement.{statement}
 use Rattle.opening.proofs.colours.mark_neighbours.Tie as tie
 
 abbrev Inv-loop : tie.InvT-loop
-Inv-loop elements scratch vertices v flags₀ at₀ flags at = Walked elements scratch v at flags
+Inv-loop elements index paint vertices v flags₀ at₀ flags at = Walked elements paint v at flags
 
 abbrev μ-loop : tie.MeasureT-loop
-μ-loop elements scratch vertices v flags₀ at₀ flags at = at
+μ-loop elements index paint vertices v flags₀ at₀ flags at = at
 
 mul-wide : tie.Need-mul-wide Inv-loop μ-loop
 mul-wide c = search needs

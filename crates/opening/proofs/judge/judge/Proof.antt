@@ -1,5 +1,5 @@
 use mathlib.Core.Path.{sym, _∙_}
-use Rattle.opening.proofs.laws.Judging.{blank-size, plain-judged, settled-lengths, settled-numbers, settled-judged}
+use Rattle.opening.proofs.laws.Judging.{plain-judged, settled-lengths, settled-numbers, settled-judged}
 use borrow.Author.Needs.{needs}
 use Rattle.opening.proofs.judge.judge.Statement.{statement}
 use Rattle.opening.proofs.judge.judge.Tie as tie
@@ -11,7 +11,7 @@ enum-known-lengths : tie.Need-enum-known-lengths
 enum-known-lengths c = search needs
 
 returns : tie.Need-returns
-returns c = settled-lengths _ _ _ _ _ (sym (c .before .before .before .judge-lengths .ensures) ∙ c .before .lengths .given .1) (blank-size (c .before .before .before .before .before .before .before .pre))
+returns c = settled-lengths _ _ _ _ _ (sym (c .before .before .before .judge-lengths .ensures) ∙ c .before .lengths .given .1) (c .before .before .before .before .before .before .before .pre)
 
 enum-told : tie.Need-enum-told
 enum-told c = search needs
@@ -23,7 +23,7 @@ enum-known-numbers : tie.Need-enum-known-numbers
 enum-known-numbers c = search needs
 
 returns-2 : tie.Need-returns-2
-returns-2 c = settled-numbers _ _ _ _ _ (sym (c .before .before .before .before .before .before .judge-lengths .ensures) ∙ c .before .before .before .before .enum-told .given .1) (sym (c .before .before .before .judge-numbers .ensures) ∙ c .before .numbers .given .1) (blank-size (c .before .before .before .before .before .before .before .before .before .before .pre))
+returns-2 c = settled-numbers _ _ _ _ _ (sym (c .before .before .before .before .before .before .judge-lengths .ensures) ∙ c .before .before .before .before .enum-told .given .1) (sym (c .before .before .before .judge-numbers .ensures) ∙ c .before .numbers .given .1) (c .before .before .before .before .before .before .before .before .before .before .pre)
 
 enum-told-2 : tie.Need-enum-told-2
 enum-told-2 c = search needs

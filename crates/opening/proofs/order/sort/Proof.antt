@@ -13,20 +13,20 @@ pair-requires-2 : tie.Need-pair-requires-2
 pair-requires-2 c κs = search needs
 
 pair-requires-3 : tie.Need-pair-requires-3
-pair-requires-3 c κs = omega (arith, first-known (colourIn (c .before .before .before .args .scratch .now)) _ _ _ (c .before .before .before .pre .1) (c .before .pair .ensures) (c .pair2 .ensures))
+pair-requires-3 c κs = omega (arith, first-known (colourIn (c .before .before .before .args .paint .now)) _ _ _ (c .before .before .before .pre .1) (c .before .pair .ensures) (c .pair2 .ensures))
 
 pair-requires-4 : tie.Need-pair-requires-4
-pair-requires-4 c κs = omega (arith, first-known (colourIn (c .before .before .before .before .args .scratch .now)) _ _ _ (c .before .before .before .before .pre .1) (c .before .before .pair .ensures) (c .before .pair2 .ensures))
+pair-requires-4 c κs = omega (arith, first-known (colourIn (c .before .before .before .before .args .paint .now)) _ _ _ (c .before .before .before .before .pre .1) (c .before .before .pair .ensures) (c .before .pair2 .ensures))
 
 pair-requires-5 : tie.Need-pair-requires-5
 pair-requires-5 c κs =
-    let f = colourIn (c .before .before .before .before .before .args .scratch .now) in
+    let f = colourIn (c .before .before .before .before .before .args .paint .now) in
     let first = first-known f _ _ _ (c .before .before .before .before .before .pre .1) (c .before .before .before .pair .ensures) (c .before .before .pair2 .ensures) in
     omega (arith, second-known f _ _ _ _ first (c .before .pair3 .ensures) (c .pair4 .ensures))
 
 returns : tie.Need-returns
 returns c =
-    let f = colourIn (c .before .before .before .before .before .before .args .scratch .now) in
+    let f = colourIn (c .before .before .before .before .before .before .args .paint .now) in
     let first = first-known f _ _ _ (c .before .before .before .before .before .before .pre .1) (c .before .before .before .before .pair .ensures) (c .before .before .before .pair2 .ensures) in
     let second = second-known f _ _ _ _ first (c .before .before .pair3 .ensures) (c .before .pair4 .ensures) in (
       sorted-is f _ _ _ _ _ _ (c .before .before .before .before .pair .ensures) (c .before .before .before .pair2 .ensures) (c .before .before .pair3 .ensures) (c .before .pair4 .ensures) (c .pair5 .ensures),

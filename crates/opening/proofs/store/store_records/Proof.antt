@@ -12,10 +12,10 @@ use Rattle.opening.proofs.store.store_records.Statement.{statement}
 use Rattle.opening.proofs.store.store_records.Tie as tie
 
 abbrev Inv-loop : tie.InvT-loop
-Inv-loop scratch vertices records₀ v₀ records v = Filled recordWidth recordCells 0 (λ v. initial (colourIn scratch v)) (length records₀) vertices v records
+Inv-loop paint vertices records₀ v₀ records v = Filled recordWidth recordCells 0 (λ v. initial (colourIn paint v)) (length records₀) vertices v records
 
 abbrev μ-loop : tie.MeasureT-loop
-μ-loop scratch vertices records₀ v₀ records v = vertices - v
+μ-loop paint vertices records₀ v₀ records v = vertices - v
 
 clear-numbers-requires : tie.Need-clear-numbers-requires Inv-loop μ-loop
 clear-numbers-requires c κs = search needs

@@ -12,10 +12,10 @@ use Rattle.opening.proofs.store.store_rows.Statement.{statement}
 use Rattle.opening.proofs.store.store_rows.Tie as tie
 
 abbrev Inv-loop : tie.InvT-loop
-Inv-loop elements scratch vertices n rows₀ count k₀ rows k = Filled rowWidth rowCells 0 (rootOf n (colourIn scratch) elements) (length rows₀) count k rows
+Inv-loop elements paint vertices n rows₀ count k₀ rows k = Filled rowWidth rowCells 0 (rootOf n (colourIn paint) elements) (length rows₀) count k rows
 
 abbrev μ-loop : tie.MeasureT-loop
-μ-loop elements scratch vertices n rows₀ count k₀ rows k = count - k
+μ-loop elements paint vertices n rows₀ count k₀ rows k = count - k
 
 clear-numbers-requires : tie.Need-clear-numbers-requires Inv-loop μ-loop
 clear-numbers-requires c κs = search needs
