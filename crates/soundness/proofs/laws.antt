@@ -20,6 +20,7 @@ pub mod Offspring
 pub mod Splits
 pub mod Count
 pub mod Chains
+pub mod Pairs
 pub mod Conform
 pub mod Family
 pub mod Midpoints

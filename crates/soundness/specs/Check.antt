@@ -2,7 +2,7 @@
 use mathlib.Core.Path.{_≡_}
 use mathlib.Core.Bool.{Bool, true, false}
 use mathlib.Core.List.{List, []}
-use Prim.Native.Nat.{ℕ, zero, suc, _*_, _/_, _%_, _≤_, _<_}
+use Prim.Native.Nat.{ℕ, _+_, _*_, _/_, _%_, _-_, _≤_, _<_}
 use lib.ListN.{length, getD}
 use lib.Ieee.{Float}
 use Rattle.split.specs.declared.row.Row.{Row}
@@ -10,9 +10,9 @@ use Rattle.split.specs.Split.{Side, at, far, Holds}
 use Rattle.split.specs.Row.{childOf, cornersOf, tagOf}
 use Rattle.split.specs.Midpoint.{between}
 use Rattle.tables.specs.declared.layout.Counts.{Counts}
-use Rattle.tables.specs.declared.record.Record.{Record}
 use Rattle.tables.specs.Mesh.{Lent, Mesh, meshOf, Unused}
 use Rattle.tables.specs.Layout.{pointAt, recordAt, rowAt, rowWidth}
+use Rattle.chain.specs.Chain.{Indexed}
 use Rattle.soundness.specs.Sound.{rows, rowOf, childless, place, Child, Parent, Afresh, Fitting}
 
 -- r says whether P holds
@@ -66,28 +66,44 @@ pub record Ruled (p : List Float) (r : List ℕ) (v : ℕ) : Type 0 where
   pub older : recordAt r v .second < v
   pub point : pointAt p v ≡ between (pointAt p (recordAt r v .first)) (pointAt p (recordAt r v .second))
 
--- a parent as a key, the smaller at 0. An initial vertex has no larger one: the remainder gives it a key all the same
-abbrev pub parentOf : Record → ℕ → ℕ
-parentOf r zero = r .first
-parentOf r (suc p) = r .second % 20000
-
--- the key of parent slot s
-abbrev pub parentAt : List ℕ → ℕ → ℕ
-parentAt r s = parentOf (recordAt r (s / 2)) (s % 2)
-
--- the vertex of parent slot s stands before v and has its parents
-pub record Twin (r : List ℕ) (v s : ℕ) : Type 0 where
-  pub older : s / 2 < v
-  pub same : recordAt r (s / 2) ≡ recordAt r v
-
-pub record Keyed (r : List ℕ) (n : ℕ) : Type 0 where
+-- vertices from i on, below n, for which the index has room
+pub record Run (i n : ℕ) : Type 0 where
+  pub order : i ≤ n
   pub few : n ≤ 20000
-  pub low : (v : ℕ) → v < n → recordAt r v .first < 20000
 
--- a scratch table with room for an index of 400,000 places, and no head set
+-- the key of a pair: 19997 is prime, so that pairs with one vertex in common have different keys, all but few
+unfoldable pub keyOf : ℕ → ℕ → ℕ
+keyOf a b = (a * 7919 + b) % 19997
+
+-- the key at place s of the index, that of vertex i + s
+abbrev pub pairAt : List ℕ → ℕ → ℕ → ℕ
+pairAt r i s = keyOf (recordAt r (i + s) .first) (recordAt r (i + s) .second)
+
+-- the parents of v are a and b
+pub record Has (r : List ℕ) (v a b : ℕ) : Type 0 where
+  pub first : recordAt r v .first ≡ a
+  pub second : recordAt r v .second ≡ b
+
+-- a and b are the parents of no vertex from i on, below n
+pub record Untaken (r : List ℕ) (i n a b : ℕ) : Type 0 where
+  pub none : (u : ℕ) → i ≤ u → u < n → Has r u a b → ⊥
+
+-- no vertex from i on, before v, has the parents of v
+abbrev pub Single : List ℕ → ℕ → ℕ → Type 0
+Single r i v = Untaken r i v (recordAt r v .first) (recordAt r v .second)
+
+abbrev pub AllSingle : List ℕ → ℕ → ℕ → Type 0
+AllSingle r i n = (v : ℕ) → i ≤ v → v < n → Single r i v
+
+-- a scratch table with room for an index of 20,000 places, and no head set
 pub record Fresh (scratch : List ℕ) : Type 0 where
-  pub size : 420000 ≤ length scratch
+  pub size : 40000 ≤ length scratch
   pub clear : (v : ℕ) → v < 20000 → getD scratch v 0 ≡ 0
+
+-- the answer b: no pair stands twice, and then all are in the index
+pub record Entered (r : List ℕ) (i n : ℕ) (b : Bool) (scratch : List ℕ) : Type 0 where
+  pub decides : Decides (AllSingle r i n) b
+  pub index : b ≡ true → Indexed (pairAt r i) (n - i) 20000 scratch
 
 -- the vertex at the parent's tag of row r
 abbrev pub middleAt : List ℕ → ℕ → ℕ
@@ -100,27 +116,20 @@ pub record Marked (w : List ℕ) (t n : ℕ) (flags : List ℕ) : Type 0 where
 
 -- ---- clause 7
 
--- the key of corner slot s
+-- the parents of each midpoint stand in order
+pub record Rising (r : List ℕ) (i n : ℕ) : Type 0 where
+  pub rises : (v : ℕ) → i ≤ v → v < n → recordAt r v .first < recordAt r v .second
+
+-- row q, if it is a leaf, holds both parents of no midpoint from i on, below n
+pub record Whole (r w : List ℕ) (i n q : ℕ) : Type 0 where
+  pub leaf : rowAt w q .child ≡ 0 → (v : ℕ) → i ≤ v → v < n → Holds 3 (cornersOf (rowAt w q)) (recordAt r v .first) → Holds 3 (cornersOf (rowAt w q)) (recordAt r v .second) → ⊥
+
+abbrev pub AllWhole : List ℕ → List ℕ → ℕ → ℕ → ℕ → Type 0
+AllWhole r w i n count = (q : ℕ) → q < count → Whole r w i n q
+
+-- the vertex at corner slot s: place s % 4 of row s / 4
 abbrev pub corner : List ℕ → ℕ → ℕ
 corner w s = at (cornersOf (rowAt w (s / 4))) (s % 4)
-
-pub record Cornered (w : List ℕ) (n : ℕ) : Type 0 where
-  pub few : n ≤ 100000
-  pub low : (s : ℕ) → s < 4 * n → corner w s < 20000
-
--- the row of corner slot s is a leaf that holds v
-pub record Joins (w : List ℕ) (v s : ℕ) : Type 0 where
-  pub leaf : rowAt w (s / 4) .child ≡ 0
-  pub holds : Holds 3 (cornersOf (rowAt w (s / 4))) v
-
--- both parents of v are vertices that the index has a head for
-pub record Low (r : List ℕ) (v : ℕ) : Type 0 where
-  pub first : recordAt r v .first < 20000
-  pub second : recordAt r v .second < 20000
-
--- no leaf among the first n rows holds both a and b
-pub record Apart (w : List ℕ) (n a b : ℕ) : Type 0 where
-  pub leaf : (q : ℕ) → q < n → rowAt w q .child ≡ 0 → Holds 3 (cornersOf (rowAt w q)) a → Holds 3 (cornersOf (rowAt w q)) b → ⊥
 
 -- ---- all clauses, as the parts of the check find them
 
@@ -134,7 +143,7 @@ pub record Clauses (p : List Float) (r w : List ℕ) (c : Counts) (i t : ℕ) : 
   pub children : Children (bare r w c) i t
   pub parents : Parents (bare [] w c) t
   pub ruled : (v : ℕ) → i ≤ v → v < c .vertices → Ruled p r v
-  pub single : (v : ℕ) → i ≤ v → v < c .vertices → (u : ℕ) → u < v → recordAt r u ≡ recordAt r v → ⊥
+  pub single : AllSingle r i (c .vertices)
   pub used : (v : ℕ) → i ≤ v → v < c .vertices → (k : ℕ) × (t ≤ k) × (k < c .rows) × (middleAt w k ≡ v)
 
 -- ---- the steps of the check
@@ -143,11 +152,6 @@ pub record Clauses (p : List Float) (r w : List ℕ) (c : Counts) (i t : ℕ) : 
 pub record Cleared (n : ℕ) (scratch : List ℕ) : Type 0 where
   pub size : length scratch ≡ n
   pub zero : (v : ℕ) → getD scratch v 0 ≡ 0
-
--- an answer, with the scratch table's length as it was
-pub record Answers (P : Type 0) (n : ℕ) (r : Bool) (scratch : List ℕ) : Type 0 where
-  pub decides : Decides P r
-  pub size : length scratch ≡ n
 
 -- clauses 1 and 8, and where the leading runs end
 pub record Begun (p : List Float) (r w : List ℕ) (c : Counts) (i t : ℕ) : Type 0 where
@@ -168,17 +172,16 @@ pub record Half (p : List Float) (r w : List ℕ) (c : Counts) (i t : ℕ) : Typ
 abbrev pub AllRuled : List Float → List ℕ → Counts → ℕ → Type 0
 AllRuled p r c i = (v : ℕ) → i ≤ v → v < c .vertices → Ruled p r v
 
-abbrev pub AllSingle : List ℕ → Counts → ℕ → Type 0
-AllSingle r c i = (v : ℕ) → i ≤ v → v < c .vertices → (u : ℕ) → u < v → recordAt r u ≡ recordAt r v → ⊥
-
 abbrev pub AllUsed : List ℕ → Counts → ℕ → ℕ → Type 0
 AllUsed w c i t = (v : ℕ) → i ≤ v → v < c .vertices → (k : ℕ) × (t ≤ k) × (k < c .rows) × (middleAt w k ≡ v)
 
+-- what the index of pairs decides: the rest of clause 6, and clause 7
+pub record Pairs (r w : List ℕ) (c : Counts) (i : ℕ) : Type 0 where
+  pub single : AllSingle r i (c .vertices)
+  pub whole : AllWhole r w i (c .vertices) (c .rows)
+
+-- clauses 6 and 7
 pub record Rest (p : List Float) (r w : List ℕ) (c : Counts) (i t : ℕ) : Type 0 where
   pub ruled : AllRuled p r c i
-  pub single : AllSingle r c i
   pub used : AllUsed w c i t
-
--- clause 7
-abbrev pub AllApart : List ℕ → List ℕ → Counts → ℕ → Type 0
-AllApart r w c i = (v : ℕ) → i ≤ v → v < c .vertices → Apart w (c .rows) (recordAt r v .first) (recordAt r v .second)
+  pub pairs : Pairs r w c i

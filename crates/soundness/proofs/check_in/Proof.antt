@@ -2,8 +2,8 @@ use borrow.Author.Needs.{needs}
 use Rattle.soundness.proofs.check_in.Statement.{statement}
 use Rattle.soundness.proofs.check_in.Tie as tie
 
-decide-requires : tie.Need-decide-requires
-decide-requires c κs = search needs
+check-requires : tie.Need-check-requires
+check-requires c κs = search needs
 
 clear-requires : tie.Need-clear-requires
 clear-requires c κs = search needs
@@ -12,4 +12,4 @@ returns : tie.Need-returns
 returns c = (search needs, search needs)
 
 pub check-in-spec : {M : Type 1} → statement M
-check-in-spec = tie.close (tie.spec decide-requires clear-requires returns)
+check-in-spec = tie.close (tie.spec check-requires clear-requires returns)

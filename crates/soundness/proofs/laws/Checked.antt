@@ -1,17 +1,13 @@
 -- The clauses as the parts of the check find them, against sound tables: each gives the other, where the leading runs end.
 use mathlib.Core.Path.{_≡_, sym, ap, _∙_}
 use mathlib.Core.List.{List, []}
-use mathlib.Core.Logic.{inl, inr}
-use Prim.Native.Nat.{ℕ, _*_, _/_, _%_, _≤_, _<_}
+use Prim.Native.Nat.{ℕ, _≤_, _<_}
 use native.Mathlib.Omega.{arith}
-use lib.ListN.{length, getD}
-use lib.Seq.{length-take-le, getD-take}
 use lib.Ieee.{Float}
-use borrow.Author.Tests.{ltb-false}
 use Rattle.split.specs.Split.{Tag, Side, Corners, far, child, Holds}
 use Rattle.split.specs.Row.{cornersOf, tagOf, edgeOf, pair}
 use Rattle.split.specs.Midpoint.{between}
-use Rattle.split.proofs.laws.Places.{le-or-lt, less, equal, more, against}
+use Rattle.split.proofs.laws.Places.{less, equal, more, against}
 use Rattle.split.proofs.laws.Children.{at-new, far-at}
 use Rattle.split.proofs.laws.Rows.{vertices-step}
 use Rattle.tables.specs.declared.layout.Counts.{Counts}
@@ -19,15 +15,8 @@ use Rattle.tables.specs.declared.record.Record.{Record}
 use Rattle.tables.specs.Layout.{noPoint, noRecord, noRow, pointAt, recordAt, rowAt}
 use Rattle.tables.specs.Mesh.{Mesh, meshOf}
 use Rattle.tables.proofs.laws.View.{length-up-to, up-to-at}
-use Rattle.opening.specs.Colours.{colours, colourOf, garish}
-use Rattle.opening.specs.Opening.{initial, openedMesh}
-use Rattle.opening.proofs.laws.Search.{first-none}
-use Rattle.opening.proofs.laws.Colours.{colours-at}
-use Rattle.soundness.specs.Sound.{vertices, rows, pointOf, recordOf, rowOf, Parted, givenPoints, givenElements, Afresh, Child, Parent, Midpoint, Grown, Conforming, Fitting, Sound}
-use Rattle.soundness.specs.Check.{lent, Initials, Roots, Children, Parents, Ruled, Keyed, middleAt, corner, Cornered, Apart, Clauses}
-use Rattle.soundness.proofs.laws.Fitted.{fitting-inside}
-use Rattle.soundness.proofs.laws.Placed.{placed}
-use Rattle.soundness.proofs.laws.Tested.{tested}
+use Rattle.soundness.specs.Sound.{vertices, rows, pointOf, recordOf, rowOf, Parted, Child, Parent, Midpoint, Grown, Conforming, Sound}
+use Rattle.soundness.specs.Check.{lent, Initials, Roots, Children, Parents, Ruled, Has, Single, middleAt, AllWhole, Clauses}
 
 -- ---- what the mesh of lent tables has at a number
 
@@ -150,6 +139,9 @@ module _ (p : List Float) (r w : List ℕ) (c : Counts) where
   have-rows : {k : ℕ} → k < c .rows → k < rows mesh
   have-rows h = rw (rows-is p r w c) h
 
+  has-same : (u v : ℕ) → recordAt r u ≡ recordAt r v → Has r u (recordAt r v .first) (recordAt r v .second)
+  has-same u v e = record { first = ap (λ (x : Record). x .first) e; second = ap (λ (x : Record). x .second) e }
+
   middle-is : (k : ℕ) → k < c .rows → rowAt w k .parent < c .rows → middleIn mesh k ≡ middleAt w k
   middle-is k h l = rw (row-is p r w c k h, row-is p r w c (rowAt w k .parent) l)
 
@@ -165,7 +157,7 @@ module _ (p : List Float) (r w : List ℕ) (c : Counts) where
     }
 
     only-of : Clauses p r w c i t → (v u : ℕ) → i ≤ v → v < c .vertices → i ≤ u → u < c .vertices → recordAt r u ≡ recordAt r v → u ≡ v
-    only-of f v u h l k b e = elim (against u v) [ less a ↦ absurd (f .single v h l u a e) | equal a ↦ a | more a ↦ absurd (f .single u k b v a (sym e)) ]
+    only-of f v u h l k b e = elim (against u v) [ less a ↦ absurd (f .single v h l .none u k a (has-same u v e)) | equal a ↦ a | more a ↦ absurd (f .single u k b .none v h a (has-same v u (sym e))) ]
 
     midpoint-of : Clauses p r w c i t → (v : ℕ) → i ≤ v → v < vertices mesh → Midpoint mesh i v
     midpoint-of f v h l =
@@ -181,8 +173,8 @@ module _ (p : List Float) (r w : List ℕ) (c : Counts) where
         (λ u g a x. let d = count-vertices a in only-of f v u h b g d (sym (record-is p r w c u d) ∙ x ∙ e))
         (rw (e, point-is p r w c v b, point-is p r w c (recordAt r v .first) (omega (arith, s .rising, s .older)), point-is p r w c (recordAt r v .second) (omega (arith, s .older))) (s .point))
 
-  conforming-of : {i : ℕ} → ((v : ℕ) → i ≤ v → v < c .vertices → Apart w (c .rows) (recordAt r v .first) (recordAt r v .second)) → Conforming mesh i
-  conforming-of {i} apart = record { leaf = leaf }
+  conforming-of : {i : ℕ} → AllWhole r w i (c .vertices) (c .rows) → Conforming mesh i
+  conforming-of {i} whole = record { leaf = leaf }
     where
       leaf : (q v : ℕ) → q < rows mesh → rowOf mesh q .child ≡ 0 → i ≤ v → v < vertices mesh → Holds 3 (cornersOf (rowOf mesh q)) (recordOf mesh v .first) → Holds 3 (cornersOf (rowOf mesh q)) (recordOf mesh v .second) → ⊥
       leaf q v h z k l a b =
@@ -190,7 +182,7 @@ module _ (p : List Float) (r w : List ℕ) (c : Counts) where
           let y = count-vertices l in
           let at-q = row-is p r w c q x in
           let at-v = record-is p r w c v y in
-          apart v k y .leaf q x (rw at-q at z) (rw (at-q, at-v) at a) (rw (at-q, at-v) at b)
+          whole q x .leaf (rw at-q at z) v k y (rw (at-q, at-v) at a) (rw (at-q, at-v) at b)
 
   -- ---- a leading run ends where the mesh is parted
 
@@ -223,15 +215,15 @@ module _ (p : List Float) (r w : List ℕ) (c : Counts) where
           point = rw (e, point-is p r w c v l, point-is p r w c (recordAt r v .first) (omega arith), point-is p r w c (recordAt r v .second) (omega arith)) at (b .point);
         }
 
-    -- an initial vertex has no parents, so its record is no midpoint's
-    single-of : (u : ℕ) → u < v → recordAt r u ≡ recordAt r v → ⊥
-    single-of u a e =
-        let b : u < c .vertices = omega arith in
-        let same : recordOf mesh u ≡ recordOf mesh v = record-is p r w c u b ∙ e ∙ sym (record-is p r w c v l) in
-        elim (le-or-lt i u) [
-          | inl k ↦ let x : u ≡ v = g .midpoint v h (have-vertices l) .only u k (have-vertices b) same in omega arith
-          | inr k ↦ g .parted .midpoints v h (have-vertices l) (ap (λ (x : Record). x .second) (sym same) ∙ g .parted .initial u k)
-        ]
+    single-of : Single r i v
+    single-of = record { none = none }
+      where
+        none : (u : ℕ) → i ≤ u → u < v → Has r u (recordAt r v .first) (recordAt r v .second) → ⊥
+        none u k a x =
+            let b : u < c .vertices = omega arith in
+            let same : recordAt r u ≡ recordAt r v = record-same (recordAt r u) (recordAt r v) (λ j. pair (x .first j) (x .second j)) in
+            let one : u ≡ v = g .midpoint v h (have-vertices l) .only u k (have-vertices b) (record-is p r w c u b ∙ same ∙ sym (record-is p r w c v l)) in
+            omega arith
 
     used-of : (k : ℕ) × (t ≤ k) × (k < c .rows) × (middleAt w k ≡ v)
     used-of =
@@ -241,23 +233,19 @@ module _ (p : List Float) (r w : List ℕ) (c : Counts) where
         (k, made .past, there, sym (middle-is k there (omega arith)) ∙ made .is)
 
 module _ {p : List Float} {r w : List ℕ} {c : Counts} {i t : ℕ} where
-  pub grown-of : Initials r (c .vertices) i → Roots w (c .rows) t → Clauses p r w c i t → Grown (meshOf (lent p r w) c) i t
-  grown-of ini roo f = record {
-    parted = parted-of p r w c ini roo f;
-    afresh = f .afresh;
-    child = children-points [] r w c p (f .children);
-    parent = parents-others [] [] w c p r (f .parents);
-    midpoint = midpoint-of p r w c ini roo f;
-  }
-
-  pub sound-of : Initials r (c .vertices) i → Roots w (c .rows) t → Clauses p r w c i t
-      → ((v : ℕ) → i ≤ v → v < c .vertices → Apart w (c .rows) (recordAt r v .first) (recordAt r v .second)) → Sound (lent p r w) c
-  sound-of ini roo f apart = record {
+  pub sound-of : Initials r (c .vertices) i → Roots w (c .rows) t → Clauses p r w c i t → AllWhole r w i (c .vertices) (c .rows) → Sound (lent p r w) c
+  sound-of ini roo f whole = record {
     fitting = f .fitting;
     initials = i;
     roots = t;
-    grown = grown-of ini roo f;
-    conforming = conforming-of p r w c apart;
+    grown = record {
+      parted = parted-of p r w c ini roo f;
+      afresh = f .afresh;
+      child = children-points [] r w c p (f .children);
+      parent = parents-others [] [] w c p r (f .parents);
+      midpoint = midpoint-of p r w c ini roo f;
+    };
+    conforming = conforming-of p r w c whole;
     unused = f .unused;
   }
 
@@ -284,55 +272,11 @@ module _ {p : List Float} {r w : List ℕ} {c : Counts} {i t : ℕ} where
         used = used-of p r w c g;
       }
 
-  pub apart-of : Sound (lent p r w) c → Initials r (c .vertices) i → Roots w (c .rows) t → (v : ℕ) → i ≤ v → v < c .vertices → Apart w (c .rows) (recordAt r v .first) (recordAt r v .second)
-  apart-of s ini roo v h l = record { leaf = leaf }
+  pub whole-of : Sound (lent p r w) c → Initials r (c .vertices) i → Roots w (c .rows) t → AllWhole r w i (c .vertices) (c .rows)
+  whole-of s ini roo q k = record { leaf = leaf }
     where
-      leaf : (q : ℕ) → q < c .rows → rowAt w q .child ≡ 0 → Holds 3 (cornersOf (rowAt w q)) (recordAt r v .first) → Holds 3 (cornersOf (rowAt w q)) (recordAt r v .second) → ⊥
-      leaf q k z a b =
+      leaf : rowAt w q .child ≡ 0 → (v : ℕ) → i ≤ v → v < c .vertices → Holds 3 (cornersOf (rowAt w q)) (recordAt r v .first) → Holds 3 (cornersOf (rowAt w q)) (recordAt r v .second) → ⊥
+      leaf z v h l a b =
           let at-q = row-is p r w c q k in
           let at-v = record-is p r w c v l in
           s .conforming .leaf q v (have-rows p r w c k) (rw at-q z) (rw (runs-of s ini roo .0) h) (have-vertices p r w c l) (rw (at-q, at-v) a) (rw (at-q, at-v) b)
-
--- ---- what the indexes ask of their keys
-
--- corner slot s is place s % 4 of row s / 4, and a row's corners are vertices
-pub cornered-of : {p : List Float} {r w : List ℕ} {c : Counts} {i t : ℕ} → Grown (meshOf (lent p r w) c) i t → Fitting (lent p r w) c → Cornered w (c .rows)
-cornered-of {p} {r} {w} {c} g f = record { few = fitting-inside f .few-rows; low = low }
-  where
-    low : (s : ℕ) → s < 4 * c .rows → corner w s < 20000
-    low s h =
-        let inside : s / 4 < c .rows = omega arith in
-        let held = placed g (s / 4) (have-rows p r w c inside) .held (s % 4) (omega arith) in
-        let below : corner w s < c .vertices = rw (row-is p r w c (s / 4) inside, vertices-is p r w c) at held in
-        omega (arith, fitting-inside f .few-vertices)
-
--- the first number of an initial vertex is a colour, and opening refuses colours over 63; this is known before the tables are known to be sound
-module _ {m : Mesh} {i t : ℕ} (a : Afresh m i t) (b : i ≤ vertices m) where
-  afresh-vertices : length (givenPoints m i) / 3 ≡ i
-  unfolding openedMesh
-  afresh-vertices = sym (length-up-to _ (length (givenPoints m i) / 3)) ∙ ap length (a .colours) ∙ length-take-le i (m .records) b
-
-  afresh-colour : (v : ℕ) → v < i → recordOf m v .first ≡ colourOf (givenElements m t) v
-  unfolding openedMesh
-  afresh-colour v h =
-      let n = length (givenPoints m i) / 3 in
-      let inside : v < n = omega (arith, afresh-vertices) in
-      ap (λ (x : Record). x .first)
-      (sym (getD-take i (m .records) v noRecord h) ∙ sym (ap (λ (l : List Record). getD l v noRecord) (a .colours)) ∙ up-to-at (λ u. initial (getD (colours (givenElements m t) n) u 0)) n v noRecord inside)
-      ∙ colours-at (givenElements m t) n v inside
-
-  afresh-small : (v : ℕ) → v < i → recordOf m v .first ≤ 63
-  afresh-small v h =
-      rw (afresh-colour v h)
-      (ltb-false 63 (colourOf (givenElements m t) v)
-      (first-none (garish (givenElements m t)) (length (givenPoints m i) / 3) (tested (givenPoints m i) (givenElements m t) _ _ _ (a .opens) .colours) v (omega (arith, afresh-vertices))))
-
-pub keyed-of : {p : List Float} {r w : List ℕ} {c : Counts} {i t : ℕ} → Initials r (c .vertices) i → Fitting (lent p r w) c → Afresh (meshOf (lent p r w) c) i t
-    → ((v : ℕ) → i ≤ v → v < c .vertices → Ruled p r v) → Keyed r (c .vertices)
-keyed-of {p} {r} {w} {c} {i} {t} ini f a ruled = record { few = fitting-inside f .few-vertices; low = low }
-  where
-    low : (v : ℕ) → v < c .vertices → recordAt r v .first < 20000
-    low v h = elim (le-or-lt i v) [
-      | inl k ↦ let s = ruled v k h in omega (arith, s .rising, s .older, fitting-inside f .few-vertices)
-      | inr k ↦ let s : recordAt r v .first ≤ 63 = rw (record-is p r w c v h) at (afresh-small a (rw (vertices-is p r w c) (ini .within)) v k) in omega arith
-    ]

@@ -1,83 +1,84 @@
--- Clause 7: the corner slots, and the walks along the slots of two vertices.
-use mathlib.Core.Path.{_≡_, refl, sym, _∙_, ap}
+-- Clause 7: a leaf by its six pairs of vertices.
+use mathlib.Core.Path.{_≡_, sym}
 use mathlib.Core.Bool.{Bool, true, false}
 use mathlib.Core.List.{List}
-use Prim.Native.Nat.{ℕ, zero, suc, _+_, _*_, _/_, _%_, _-_, _≤_, _<_}
+use mathlib.Core.Logic.{_⊎_, inl, inr}
+use Prim.Native.Nat.{ℕ, zero, suc, _≤_, _<_, min, max}
 use native.Mathlib.Omega.{arith}
 use Rattle.split.specs.declared.row.Row.{Row}
 use Rattle.split.specs.Split.{Corners, at, Holds}
 use Rattle.split.specs.Row.{cornersOf}
-use Rattle.tables.specs.declared.record.Record.{Record}
+use Rattle.split.proofs.laws.Places.{le-or-lt}
 use Rattle.tables.specs.Layout.{recordAt, rowAt}
-use Rattle.soundness.specs.Check.{Decides, corner, Joins, Apart, Low}
+use Rattle.soundness.specs.Check.{Decides, Rising, Has, Untaken, Whole}
 use Rattle.soundness.proofs.laws.Deciding.{decides-true, decides-false, decides-same}
-use Rattle.soundness.proofs.laws.Chains.{Walked}
 
--- ---- the vertices of one row
+-- x and y are the parents of no midpoint, in either order
+abbrev pub Unpaired : List ℕ → ℕ → ℕ → ℕ → ℕ → Type 0
+Unpaired r i n x y = Untaken r i n (min x y) (max x y)
 
-pub holds-at : {c : Corners ℕ} {v : ℕ} (p : ℕ) → p ≤ 3 → at c p ≡ v → Holds 3 c v
-holds-at p h e = record { place = p; inside = h; is = e }
+module _ {r : List ℕ} {i n x y : ℕ} {b : Bool} where
+  pub sorted : x < y → Decides (Untaken r i n x y) b → Decides (Unpaired r i n x y) b
+  sorted l d =
+      let small : min x y ≡ x = omega arith in
+      let large : max x y ≡ y = omega arith in
+      rw (small, large) d
 
--- where the first three places fail, the fourth decides
-pub holds-last : {c : Corners ℕ} {v : ℕ} {r : Bool} → (c .v0 ≡ v → ⊥) → (c .v1 ≡ v → ⊥) → (c .v2 ≡ v → ⊥) → Decides (c .v3 ≡ v) r → Decides (Holds 3 c v) r
-holds-last {c} {v} x y z = decides-same (holds-at 3 (omega arith)) (λ h. go (h .place) (h .is))
-  where
-    go : (p : ℕ) → at c p ≡ v → c .v3 ≡ v
-    go zero e = absurd (x e)
-    go (suc zero) e = absurd (y e)
-    go (suc (suc zero)) e = absurd (z e)
-    go (suc (suc (suc p))) e = e
+  pub turned : y ≤ x → Decides (Untaken r i n y x) b → Decides (Unpaired r i n x y) b
+  turned l d =
+      let small : min x y ≡ y = omega arith in
+      let large : max x y ≡ x = omega arith in
+      rw (small, large) d
 
-pub corner-at : (W : List ℕ) (s p : ℕ) {x : ℕ} {held : Row} → held ≡ rowAt W (s / 4) → s % 4 ≡ p → x ≡ at (cornersOf held) p → x ≡ corner W s
-corner-at W s p e f g = g ∙ ap (λ (r : Row). at (cornersOf r) p) e ∙ ap (at (cornersOf (rowAt W (s / 4)))) (sym f)
+module _ {r : List ℕ} {i n : ℕ} (rising : Rising r i n) where
+  -- a midpoint whose parents are x and y, in the order of their places or against it
+  met : {x y : ℕ} → Unpaired r i n x y → (v : ℕ) → i ≤ v → v < n → recordAt r v .first ≡ x → recordAt r v .second ≡ y → ⊥
+  met u v h l e f = u .none v h l (record { first = omega (arith, rising .rises v h l); second = omega (arith, rising .rises v h l) })
 
--- ---- one slot
+  met-turned : {x y : ℕ} → Unpaired r i n x y → (v : ℕ) → i ≤ v → v < n → recordAt r v .first ≡ y → recordAt r v .second ≡ x → ⊥
+  met-turned u v h l e f = u .none v h l (record { first = omega (arith, rising .rises v h l); second = omega (arith, rising .rises v h l) })
 
-module _ {W : List ℕ} {s v : ℕ} {held : Row} (e : held ≡ rowAt W (s / 4)) where
-  pub joins-leaf : {r : Bool} → held .child ≡ 0 → Decides (Holds 3 (cornersOf held) v) r → Decides (Joins W v s) r
-  joins-leaf z = decides-same (λ h. record { leaf = rw (← e) z; holds = rw (← e) h }) (λ j. rw e (j .holds))
+  module _ {w : List ℕ} {q : ℕ} {held : Row} (e : held ≡ rowAt w q) where
+    pub whole-split : (held .child ≡ 0 → ⊥) → Decides (Whole r w i n q) true
+    whole-split d = decides-true (record { leaf = λ z. absurd (d (rw e z)) })
 
-  pub joins-split : (held .child ≡ 0 → ⊥) → Decides (Joins W v s) false
-  joins-split d = decides-false (λ j. d (ap (λ (r : Row). r .child) e ∙ j .leaf))
+    module _ (z : held .child ≡ 0) where
+      apart-at : Whole r w i n q → (p k : ℕ) → p ≤ 3 → k ≤ 3 → Unpaired r i n (at (cornersOf held) p) (at (cornersOf held) k)
+      apart-at x p k s t = record { none = λ v h l m. go v h l m (le-or-lt (at (cornersOf held) p) (at (cornersOf held) k)) }
+        where
+          held-at : {v : ℕ} (p : ℕ) → p ≤ 3 → at (cornersOf held) p ≡ v → Holds 3 (cornersOf (rowAt w q)) v
+          held-at p s f = rw (← e) (record { place = p; inside = s; is = f })
 
--- ---- the walks along the slots of a and of b, in step
+          go : (v : ℕ) → i ≤ v → v < n → Has r v (min (at (cornersOf held) p) (at (cornersOf held) k)) (max (at (cornersOf held) p) (at (cornersOf held) k)) → (at (cornersOf held) p ≤ at (cornersOf held) k) ⊎ (at (cornersOf held) k < at (cornersOf held) p) → ⊥
+          go v h l m (inl a) = x .leaf (rw e at z) v h l (held-at p s (omega (arith, m .first))) (held-at k t (omega (arith, m .second)))
+          go v h l m (inr a) = x .leaf (rw e at z) v h l (held-at k t (omega (arith, m .first))) (held-at p s (omega (arith, m .second)))
 
--- a walk that is at i: the slots of b from there on are behind it, and none is in a leaf that holds a
-abbrev pub Past : List ℕ → ℕ → ℕ → ℕ → ℕ → Type 0
-Past W n a b i = Walked (corner W) (Joins W a) (4 * n) b i
+      -- the vertices at two places are a pair
+      pub whole-fails : (p k : ℕ) → p ≤ 3 → k ≤ 3 → (Unpaired r i n (at (cornersOf held) p) (at (cornersOf held) k) → ⊥) → Decides (Whole r w i n q) false
+      whole-fails p k s t d = decides-false (λ x. d (apart-at x p k s t))
 
--- the walk along a is at x, the one along b at y
-pub record Abreast (W : List ℕ) (n a b x y : ℕ) : Type 0 where
-  pub first : Past W n b a x
-  pub second : Past W n a b y
+      -- where five pairs pass, the sixth decides
+      pub whole-last : {b : Bool} → Unpaired r i n (held .v0) (held .v1) → Unpaired r i n (held .v0) (held .v2) → Unpaired r i n (held .v0) (held .v3) → Unpaired r i n (held .v1) (held .v2) → Unpaired r i n (held .v1) (held .v3)
+          → Decides (Unpaired r i n (held .v2) (held .v3)) b → Decides (Whole r w i n q) b
+      whole-last a₁ a₂ a₃ b₂ b₃ = decides-same (λ c₃. record { leaf = λ x v h l f g. go c₃ v h l (f .place) (g .place) (rw e (f .is)) (rw e (g .is)) }) (λ x. apart-at x 2 3 (omega arith) (omega arith))
+        where
+          same : {x : ℕ} (v : ℕ) → i ≤ v → v < n → recordAt r v .first ≡ x → recordAt r v .second ≡ x → ⊥
+          same v h l f g = omega (arith, rising .rises v h l)
 
-module _ {W : List ℕ} {n a b : ℕ} where
-  -- a walk that is done has passed every leaf that holds b
-  pub past-done : {i : ℕ} → Past W n a b i → i ≤ 0 → Decides (Apart W n a b) true
-  past-done {i} p l = decides-true (record { leaf = λ q h z f g. met q h z f (g .place) (g .inside) (g .is) })
-    where
-      met : (q : ℕ) → q < n → rowAt W q .child ≡ 0 → Holds 3 (cornersOf (rowAt W q)) a → (k : ℕ) → k ≤ 3 → at (cornersOf (rowAt W q)) k ≡ b → ⊥
-      met q h z f k m g =
-          let row : (4 * q + k) / 4 ≡ q = omega arith in
-          let place : (4 * q + k) % 4 ≡ k = omega arith in
-          p .behind (4 * q + k) (omega arith) (omega arith) (sym (corner-at W (4 * q + k) k (ap (rowAt W) (sym row)) place refl) ∙ g) (record { leaf = rw row z; holds = rw row f })
-
-  -- a leaf that holds a, on the way
-  pub past-met : {i : ℕ} → Past W n a b i → 0 < i → Joins W a (i - 1) → Decides (Apart W n a b) false
-  past-met {i} p more j = decides-false (λ d. d .leaf ((i - 1) / 4) (omega (arith, p .below)) (j .leaf) (j .holds) (holds-at ((i - 1) % 4) (omega arith) (p .here more)))
-
-pub apart-swap : {W : List ℕ} {n a b : ℕ} {r : Bool} → Decides (Apart W n b a) r → Decides (Apart W n a b) r
-apart-swap = decides-same (λ d. record { leaf = λ q h z f g. d .leaf q h z g f }) (λ d. record { leaf = λ q h z f g. d .leaf q h z g f })
-
--- ---- the midpoints
-
--- no leaf holds both parents of v
-abbrev pub Parted : List ℕ → List ℕ → ℕ → ℕ → Type 0
-Parted R W n v = Apart W n (recordAt R v .first) (recordAt R v .second)
-
-module _ (R : List ℕ) (v : ℕ) {held : Record} (e : held ≡ recordAt R v) where
-  pub ends-low : Low R v → (held .first < 20000) × (held .second < 20000)
-  ends-low h = rw e (h .first, h .second)
-
-  pub decides-parted : {W : List ℕ} {n : ℕ} {r : Bool} → Decides (Apart W n (held .first) (held .second)) r → Decides (Parted R W n v) r
-  decides-parted d = rw (← e) d
+          go : Unpaired r i n (held .v2) (held .v3) → (v : ℕ) → i ≤ v → v < n → (p k : ℕ) → at (cornersOf held) p ≡ recordAt r v .first → at (cornersOf held) k ≡ recordAt r v .second → ⊥
+          go c₃ v h l zero zero f g = same v h l (sym f) (sym g)
+          go c₃ v h l zero (suc zero) f g = met a₁ v h l (sym f) (sym g)
+          go c₃ v h l zero (suc (suc zero)) f g = met a₂ v h l (sym f) (sym g)
+          go c₃ v h l zero (suc (suc (suc k))) f g = met a₃ v h l (sym f) (sym g)
+          go c₃ v h l (suc zero) zero f g = met-turned a₁ v h l (sym f) (sym g)
+          go c₃ v h l (suc zero) (suc zero) f g = same v h l (sym f) (sym g)
+          go c₃ v h l (suc zero) (suc (suc zero)) f g = met b₂ v h l (sym f) (sym g)
+          go c₃ v h l (suc zero) (suc (suc (suc k))) f g = met b₃ v h l (sym f) (sym g)
+          go c₃ v h l (suc (suc zero)) zero f g = met-turned a₂ v h l (sym f) (sym g)
+          go c₃ v h l (suc (suc zero)) (suc zero) f g = met-turned b₂ v h l (sym f) (sym g)
+          go c₃ v h l (suc (suc zero)) (suc (suc zero)) f g = same v h l (sym f) (sym g)
+          go c₃ v h l (suc (suc zero)) (suc (suc (suc k))) f g = met c₃ v h l (sym f) (sym g)
+          go c₃ v h l (suc (suc (suc p))) zero f g = met-turned a₃ v h l (sym f) (sym g)
+          go c₃ v h l (suc (suc (suc p))) (suc zero) f g = met-turned b₃ v h l (sym f) (sym g)
+          go c₃ v h l (suc (suc (suc p))) (suc (suc zero)) f g = met-turned c₃ v h l (sym f) (sym g)
+          go c₃ v h l (suc (suc (suc p))) (suc (suc (suc k))) f g = same v h l (sym f) (sym g)

@@ -2,7 +2,7 @@
 use mathlib.Core.Path.{_≡_, sym, ap, _∙_}
 use mathlib.Core.Bool.{Bool, true, false, not, true≢false}
 use mathlib.Core.List.{List}
-use Prim.Native.Nat.{ℕ, _+_, _-_, _≤_, _<_}
+use Prim.Native.Nat.{ℕ, _+_, _-_, _≤_, _<_, zero-le}
 use native.Mathlib.Nat.{add-sub-of-le, lt-of-lt-of-le, not-le-of-lt}
 use native.Mathlib.Omega.{arith}
 use lib.Dec.{eqb, ltb}
@@ -63,6 +63,10 @@ module _ {P : ℕ → Type 0} {from i : ℕ} (s : Swept P from i) where
 
   pub swept-failed : {n : ℕ} → i < n → (P i → ⊥) → Decides (All P from n) false
   swept-failed h p = decides-false (λ all. p (all i (s .reached) h))
+
+-- from 0 on is from anywhere
+pub all-places : {P : ℕ → Type 0} {n : ℕ} {r : Bool} → Decides (All P 0 n) r → Decides ((k : ℕ) → k < n → P k) r
+all-places = decides-same (λ f k h. f k zero-le h) (λ f k l h. f k h)
 
 -- ---- a list ends with copies of z from a place on exactly if z stands at every place from there on
 

@@ -1,9 +1,9 @@
--- Clause 6: equal floats and points, the rule, the parent slots and the walks along them, and the flags of the midpoints.
+-- Clause 6: equal floats and points, the rule, and the flags of the midpoints.
 use mathlib.Core.Path.{_≡_, refl, sym, ap, _∙_}
 use mathlib.Core.Logic.{_⊎_, inl, inr}
 use mathlib.Core.Bool.{Bool, true, false, true≢false}
 use mathlib.Core.List.{List}
-use Prim.Native.Nat.{ℕ, zero, suc, _+_, _*_, _/_, _%_, _≤_, _<_}
+use Prim.Native.Nat.{ℕ, _+_, _≤_, _<_}
 use native.Mathlib.Decide.{ℕ-discrete}
 use native.Mathlib.Omega.{arith}
 use lib.Dec.{eqb}
@@ -21,9 +21,8 @@ use Rattle.split.specs.Row.{readTag, cornersOf}
 use Rattle.split.specs.Midpoint.{between}
 use Rattle.tables.specs.declared.record.Record.{Record}
 use Rattle.tables.specs.Layout.{pointAt, recordAt, rowAt}
-use Rattle.soundness.specs.Check.{Decides, Ruled, parentOf, parentAt, Twin, Keyed, middleAt, Marked}
-use Rattle.soundness.proofs.laws.Deciding.{decides-true, decides-false, decides-same}
-use Rattle.soundness.proofs.laws.Chains.{Walked}
+use Rattle.soundness.specs.Check.{Decides, Ruled, middleAt, Marked}
+use Rattle.soundness.proofs.laws.Deciding.{decides-false, decides-same}
 
 -- ---- equal floats
 
@@ -69,73 +68,6 @@ module _ {p : List Float} {r : List ℕ} {v : ℕ} {held : Record} (e : held ≡
     where
       meant : middle ≡ between (pointAt p (recordAt r v .first)) (pointAt p (recordAt r v .second))
       meant = rw (w, j, m, i, k, e)
-
--- ---- the parent slots
-
-pub parent-at : (R : List ℕ) (s p : ℕ) {x : ℕ} {held : Record} → held ≡ recordAt R (s / 2) → s % 2 ≡ p → x ≡ parentOf held p → x ≡ parentAt R s
-parent-at R s p e f g = g ∙ ap (λ (r : Record). parentOf r p) e ∙ ap (parentOf (recordAt R (s / 2))) (sym f)
-
--- a slot's key is the smaller parent, or less than 20000 by the remainder
-pub slots-low : {R : List ℕ} {n : ℕ} → Keyed R n → (s : ℕ) → s < 2 * n → parentAt R s < 20000
-slots-low {R} k s h = go (s % 2)
-  where
-    go : (p : ℕ) → parentOf (recordAt R (s / 2)) p < 20000
-    go zero = k .low (s / 2) (omega arith)
-    go (suc p) = omega arith
-
--- ---- the walks back along the slots of the two parents of v, in step
-
--- no vertex before v has the parents of v
-abbrev pub Single : List ℕ → ℕ → Type 0
-Single r v = (u : ℕ) → u < v → recordAt r u ≡ recordAt r v → ⊥
-
-record-is : (a b : Record) → a .first ≡ b .first → a .second ≡ b .second → a ≡ b
-record-is a b p q =
-    let whole : _≡_ {A = Record} (record { first = a .first; second = a .second }) (record { first = b .first; second = b .second }) = cc (p, q) in
-    whole
-
--- a walk that is at i, back from parent slot m
-abbrev pub Back : List ℕ → ℕ → ℕ → ℕ → Type 0
-Back R v m i = Walked (parentAt R) (Twin R v) m (parentAt R m) i
-
-pub record Paired (R : List ℕ) (v x y : ℕ) : Type 0 where
-  pub first : Back R v (2 * v) x
-  pub second : Back R v (2 * v + 1) y
-
-module _ {R : List ℕ} {v s : ℕ} where
-  pub twin-late : v ≤ s / 2 → Decides (Twin R v s) false
-  twin-late l = decides-false (λ t. omega (arith, t .older))
-
-  module _ {held other : Record} (l : s / 2 < v) (p : held ≡ recordAt R v) (q : other ≡ recordAt R (s / 2)) where
-    pub twin-seen : {r : Bool} → other .second ≡ held .second → Decides (other .first ≡ held .first) r → Decides (Twin R v s) r
-    twin-seen e = decides-same (λ f. record { older = l; same = sym q ∙ record-is other held f e ∙ p }) (λ t. ap (λ (r : Record). r .first) (q ∙ t .same ∙ sym p))
-
-    pub twin-not : (other .second ≡ held .second → ⊥) → Decides (Twin R v s) false
-    twin-not d = decides-false (λ t. d (ap (λ (r : Record). r .second) (q ∙ t .same ∙ sym p)))
-
-  pub twin-met : Twin R v s → Decides (Single R v) false
-  twin-met t = decides-false (λ f. f (s / 2) (t .older) (t .same))
-
-module _ {R : List ℕ} {v i : ℕ} where
-  -- a walk from slot m = 2 v + p that is done has passed the slot 2 u + p of each u
-  back-done : (m p : ℕ) → p ≤ 1 → m ≡ 2 * v + p → Back R v m i → i ≤ 0 → Decides (Single R v) true
-  back-done m p small e w l = decides-true passed
-    where
-      slot : (u k : ℕ) → k ≡ 2 * u + p → parentOf (recordAt R u) p ≡ parentAt R k
-      slot u k f =
-          let vertex : k / 2 ≡ u = omega arith in
-          parent-at R k p (ap (recordAt R) (sym vertex)) (omega arith) refl
-
-      passed : (u : ℕ) → u < v → recordAt R u ≡ recordAt R v → ⊥
-      passed u b k =
-          let vertex : (2 * u + p) / 2 ≡ u = omega arith in
-          w .behind (2 * u + p) (omega arith) (omega arith) (sym (slot u (2 * u + p) refl) ∙ ap (λ (r : Record). parentOf r p) k ∙ slot v m e) (record { older = omega arith; same = ap (recordAt R) vertex ∙ k })
-
-  pub back-done-first : Back R v (2 * v) i → i ≤ 0 → Decides (Single R v) true
-  back-done-first = back-done (2 * v) 0 (omega arith) (omega arith)
-
-  pub back-done-second : Back R v (2 * v + 1) i → i ≤ 0 → Decides (Single R v) true
-  back-done-second = back-done (2 * v + 1) 1 (omega arith) (omega arith)
 
 -- ---- the flags of the midpoints
 

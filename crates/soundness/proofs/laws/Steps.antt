@@ -1,4 +1,4 @@
--- The steps of the check put together: a cleared scratch table, and what each answer says of the whole.
+-- The steps of the check put together: tables that are all zero, and what each answer says of the whole.
 use mathlib.Core.Path.{_≡_, refl, sym, _∙_}
 use mathlib.Core.Bool.{Bool}
 use mathlib.Core.List.{List, []}
@@ -9,23 +9,26 @@ use lib.ListN.{length, getD, replicate, length-replicate, getD-replicate, List·
 use lib.Ieee.{Float}
 use Rattle.split.proofs.laws.Places.{le-or-lt}
 use Rattle.tables.specs.declared.layout.Counts.{Counts}
-use Rattle.soundness.specs.Sound.{Sound, Fitting}
-use Rattle.soundness.specs.Check.{Decides, lent, Inside, Cleared, Fresh, Answers, Begun, Half, Rest, Clauses, Marked, middleAt, AllRuled, AllUsed, AllApart, Keyed, Cornered, Low}
+use Rattle.soundness.specs.Sound.{Sound}
+use Rattle.soundness.specs.Check.{Decides, lent, Inside, Cleared, Fresh, Run, Rising, Begun, Half, Rest, Clauses, Marked, middleAt, AllRuled, AllUsed}
 use Rattle.soundness.proofs.laws.Deciding.{decides-same}
 use Rattle.soundness.proofs.laws.Fitted.{fitting-inside}
-use Rattle.soundness.proofs.laws.Checked.{grown-of, keyed-of, cornered-of, sound-of, clauses-of, apart-of}
+use Rattle.soundness.proofs.laws.Checked.{sound-of, clauses-of, whole-of}
 
--- ---- the scratch table
+-- ---- tables that are all zero
+
+pub zeros-at : (n v : ℕ) → _≡_ {A = ℕ} (getD (replicate n 0) v 0) 0
+zeros-at n v = go (le-or-lt n v)
+  where
+    go : (n ≤ v) ⊎ (v < n) → _≡_ {A = ℕ} (getD (replicate n 0) v 0) 0
+    go (inl h) = List·getD-eq-default (replicate n 0) 0 (omega (arith, length-replicate {A = ℕ} n 0))
+    go (inr h) = getD-replicate n v 0 0 h
 
 pub cleared-copies : (n : ℕ) (l : List ℕ) → l ≡ replicate n 0 → Cleared n l
-cleared-copies n l e = record { size = rw (e, length-replicate); zero = λ v. rw e (go v (le-or-lt n v)) }
-  where
-    go : (v : ℕ) → (n ≤ v) ⊎ (v < n) → _≡_ {A = ℕ} (getD (replicate n 0) v 0) 0
-    go v (inl h) = List·getD-eq-default (replicate n 0) 0 (omega (arith, length-replicate {A = ℕ} n 0))
-    go v (inr h) = getD-replicate n v 0 0 h
+cleared-copies n l e = record { size = rw (e, length-replicate); zero = λ v. rw e (zeros-at n v) }
 
-pub cleared-fresh : {n : ℕ} {l : List ℕ} → Cleared n l → 420000 ≤ n → Fresh l
-cleared-fresh c h = record { size = rw (c .size) h; clear = λ v l. c .zero v }
+pub zeros-fresh : (n : ℕ) → 40000 ≤ n → Fresh (replicate n 0)
+zeros-fresh n h = record { size = rw length-replicate h; clear = λ v l. zeros-at n v }
 
 -- clause 5 looks at the rows alone
 pub inside-rows : {r w : List ℕ} {c : Counts} → Inside r w c → Inside [] w c
@@ -43,7 +46,21 @@ used-marked {w} {flags} {c} {i} {t} m few d = decides-same (λ f v a b. m .only 
 -- ---- all clauses
 
 module _ {p : List Float} {r w : List ℕ} {c : Counts} {i t : ℕ} (b : Begun p r w c i t) where
-  pub clauses-from : Half p r w c i t → Rest p r w c i t → Clauses p r w c i t
+  pub few-vertices : c .vertices ≤ 20000
+  few-vertices = fitting-inside (b .fitting) .few-vertices
+
+  -- what the index of pairs relies on
+  pub run-from : Run i (c .vertices)
+  run-from = record { order = b .initials .within; few = few-vertices }
+
+  pub rising-from : AllRuled p r c i → Rising r i (c .vertices)
+  rising-from s = record { rises = λ v h l. s v h l .rising }
+
+  -- without midpoints there is nothing to ask
+  pub rest-none : c .vertices ≤ i → Rest p r w c i t
+  rest-none n = record { ruled = λ v h l. absurd (omega arith); used = λ v h l. absurd (omega arith); pairs = record { single = λ v h l. absurd (omega arith); whole = λ q k. record { leaf = λ z v h l. absurd (omega arith) } } }
+
+  clauses-from : Half p r w c i t → Rest p r w c i t → Clauses p r w c i t
   clauses-from h s =
       record {
         fitting = b .fitting;
@@ -54,7 +71,7 @@ module _ {p : List Float} {r w : List ℕ} {c : Counts} {i t : ℕ} (b : Begun p
         children = h .children;
         parents = h .parents;
         ruled = s .ruled;
-        single = s .single;
+        single = s .pairs .single;
         used = s .used;
       }
 
@@ -63,22 +80,10 @@ module _ {p : List Float} {r w : List ℕ} {c : Counts} {i t : ℕ} (b : Begun p
       let x = clauses-of s (b .initials) (b .roots) in
       record { midpoints = x .midpoints; later = x .later; afresh = x .afresh; children = x .children; parents = x .parents }
 
-  pub rest-of : Sound (lent p r w) c → Rest p r w c i t
-  rest-of s = let x = clauses-of s (b .initials) (b .roots) in record { ruled = x .ruled; single = x .single; used = x .used }
+  rest-of : Sound (lent p r w) c → Rest p r w c i t
+  rest-of s =
+      let x = clauses-of s (b .initials) (b .roots) in
+      record { ruled = x .ruled; used = x .used; pairs = record { single = x .single; whole = whole-of s (b .initials) (b .roots) } }
 
-  pub few-vertices : c .vertices ≤ 20000
-  few-vertices = fitting-inside (b .fitting) .few-vertices
-
-  pub keyed-from : Half p r w c i t → AllRuled p r c i → Keyed r (c .vertices)
-  keyed-from h s = keyed-of (b .initials) (b .fitting) (h .afresh) s
-
-  -- what clause 7 relies on, and what it settles
-  module _ (h : Half p r w c i t) (s : Rest p r w c i t) where
-    pub cornered-from : Cornered w (c .rows)
-    cornered-from = cornered-of (grown-of (b .initials) (b .roots) (clauses-from h s)) (b .fitting)
-
-    pub parents-low : (v : ℕ) → i ≤ v → v < c .vertices → Low r v
-    parents-low v a l = omega (arith, s .ruled v a l .rising, s .ruled v a l .older, few-vertices)
-
-    pub sound-decided : {x : Bool} → Decides (AllApart r w c i) x → Decides (Sound (lent p r w) c) x
-    sound-decided d = decides-same (λ a. sound-of (b .initials) (b .roots) (clauses-from h s) a) (λ z. apart-of z (b .initials) (b .roots)) d
+  pub sound-decided : {x : Bool} → Half p r w c i t → Decides (Rest p r w c i t) x → Decides (Sound (lent p r w) c) x
+  sound-decided h = decides-same (λ s. sound-of (b .initials) (b .roots) (clauses-from h s) (s .pairs .whole)) rest-of

@@ -1,4 +1,3 @@
-use mathlib.Core.Path.{refl}
 use Rattle.soundness.proofs.laws.Deciding.{decides-false, decides-same, refused, granted}
 use Rattle.soundness.proofs.laws.Fitted.{fitting-inside}
 use Rattle.soundness.proofs.laws.Steps.{inside-rows}
@@ -10,53 +9,41 @@ no-initial-from-requires : tie.Need-no-initial-from-requires
 no-initial-from-requires c κs = search needs
 
 returns : tie.Need-returns
-returns c = record { decides = decides-false (λ h. refused (c .before .no-initial-from .ensures) (c .if1 .taken) (h .midpoints)); size = refl }
+returns c = decides-false (λ h. refused (c .before .no-initial-from .ensures) (c .if1 .taken) (h .midpoints))
 
 no-root-from-requires : tie.Need-no-root-from-requires
 no-root-from-requires c κs = search needs
 
 returns-2 : tie.Need-returns-2
-returns-2 c = record { decides = decides-false (λ h. refused (c .before .no-root-from .ensures) (c .if2 .taken) (h .later)); size = refl }
+returns-2 c = decides-false (λ h. refused (c .before .no-root-from .ensures) (c .if2 .taken) (h .later))
 
 afresh-requires : tie.Need-afresh-requires
 afresh-requires c κs = search needs
 
-same-length : tie.Need-same-length
-same-length c = search needs
-
 returns-3 : tie.Need-returns-3
-returns-3 c = record { decides = decides-false (λ h. refused (c .before .before .before .afresh .ensures .decides) (c .if3 .taken) (h .afresh)); size = c .before .before .before .afresh .ensures .size }
+returns-3 c = decides-false (λ h. refused (c .before .afresh .ensures) (c .if3 .taken) (h .afresh))
 
 children-follow-requires : tie.Need-children-follow-requires
-children-follow-requires c κs = fitting-inside (c .before .before .before .before .before .before .before .before .before .before .before .before .before .pre .0 .fitting)
-
-same-length-2 : tie.Need-same-length-2
-same-length-2 c = search needs
+children-follow-requires c κs = search (fitting-inside, needs)
 
 returns-4 : tie.Need-returns-4
-returns-4 c = record { decides = decides-false (λ h. refused (c .before .children-follow .ensures) (c .if4 .taken) (h .children)); size = c .before .before .before .before .before .afresh .ensures .size }
+returns-4 c = decides-false (λ h. refused (c .before .children-follow .ensures) (c .if4 .taken) (h .children))
 
 parents-follow-requires : tie.Need-parents-follow-requires
-parents-follow-requires c κs = inside-rows (fitting-inside (c .before .before .before .before .before .before .before .before .before .before .before .before .before .before .before .pre .0 .fitting))
-
-same-length-3 : tie.Need-same-length-3
-same-length-3 c = search needs
+parents-follow-requires c κs = search (inside-rows, fitting-inside, needs)
 
 returns-5 : tie.Need-returns-5
-returns-5 c = record {
-  decides =
-      decides-same
-      (λ q. record {
-        midpoints = granted (c .before .before .before .before .before .before .before .before .before .before .before .no-initial-from .ensures) (c .before .before .before .before .before .before .before .before .before .before .if1 .left);
-        later = granted (c .before .before .before .before .before .before .before .before .before .no-root-from .ensures) (c .before .before .before .before .before .before .before .before .if2 .left);
-        afresh = granted (c .before .before .before .before .before .before .afresh .ensures .decides) (c .before .before .before .if3 .left);
-        children = granted (c .before .before .children-follow .ensures) (c .before .if4 .left);
-        parents = q;
-      })
-      (λ h. h .parents)
-      (c .parents-follow .ensures);
-  size = c .before .before .before .before .before .before .afresh .ensures .size;
-}
+returns-5 c =
+    decides-same
+    (λ q. record {
+      midpoints = granted (c .before .before .before .before .before .before .before .before .no-initial-from .ensures) (c .before .before .before .before .before .before .before .if1 .left);
+      later = granted (c .before .before .before .before .before .before .no-root-from .ensures) (c .before .before .before .before .before .if2 .left);
+      afresh = granted (c .before .before .before .before .afresh .ensures) (c .before .before .before .if3 .left);
+      children = granted (c .before .before .children-follow .ensures) (c .before .if4 .left);
+      parents = q;
+    })
+    (λ h. h .parents)
+    (c .parents-follow .ensures)
 
 pub half-spec : {M : Type 1} → statement M
 half-spec =
@@ -67,11 +54,8 @@ half-spec =
     no-root-from-requires
     returns-2
     afresh-requires
-    same-length
     returns-3
     children-follow-requires
-    same-length-2
     returns-4
     parents-follow-requires
-    same-length-3
     returns-5)

@@ -1,0 +1,103 @@
+-- The index of pairs: the walk along the places of one key, and the pairs entered one after the other.
+use mathlib.Core.Path.{_≡_, refl, sym, ap, _∙_}
+use mathlib.Core.Bool.{Bool, true, false, not, true≢false}
+use mathlib.Core.List.{List}
+use Prim.Native.Nat.{ℕ, _+_, _*_, _%_, _-_, _≤_, _<_}
+use native.Mathlib.Nat.{add-sub-of-le}
+use native.Mathlib.Omega.{arith}
+use lib.ListN.{length, getD}
+use borrow.Author.Tests.{not-false}
+use Rattle.chain.specs.Chain.{Indexed, pushed}
+use Rattle.chain.proofs.laws.Index.{indexed-none, indexed-push-one}
+use Rattle.chain.proofs.laws.Pushed.{pushed-length}
+use Rattle.tables.specs.declared.record.Record.{Record}
+use Rattle.tables.specs.Layout.{recordAt}
+use Rattle.soundness.specs.Check.{Decides, Run, keyOf, pairAt, Has, Untaken, Single, AllSingle, Fresh, Entered}
+use Rattle.soundness.proofs.laws.Deciding.{decides-true, decides-false, decides-same, refused, granted, Swept, swept-none, swept-on, swept-all, swept-failed}
+use Rattle.soundness.proofs.laws.Chains.{Walked, walked-on}
+
+pub key-low : (a b : ℕ) → keyOf a b < 20000
+unfolding keyOf
+key-low a b = omega arith
+
+pub key-is : {a b x y k : ℕ} → x ≡ a → y ≡ b → k ≡ (x * 7919 + y) % 19997 → k ≡ keyOf a b
+unfolding keyOf
+key-is e f g = rw (g, e, f)
+
+-- ---- one vertex
+
+module _ {r : List ℕ} {v a b : ℕ} {held : Record} (e : held ≡ recordAt r v) where
+  pub has-seen : {x : Bool} → held .first ≡ a → Decides (held .second ≡ b) x → Decides (Has r v a b) x
+  has-seen f = decides-same (λ g. record { first = rw e at f; second = rw e at g }) (λ h. rw e (h .second))
+
+  pub has-not : (held .first ≡ a → ⊥) → Decides (Has r v a b) false
+  has-not d = decides-false (λ h. d (rw e (h .first)))
+
+-- ---- the walk along the places of the key of a and b
+
+module _ (r : List ℕ) (i n a b : ℕ) where
+  -- a walk that is at x: no place from there on is of a vertex with the parents a and b
+  abbrev pub Seeking : ℕ → Type 0
+  Seeking x = Walked (pairAt r i) (λ (s : ℕ). Has r (i + s) a b) (n - i) (keyOf a b) x
+
+  -- the place x - 1 is asked, and the walk goes on
+  pub seek-on : {scratch : List ℕ} {x next : ℕ} {y : Bool} → Indexed (pairAt r i) (n - i) 20000 scratch → Seeking x → 0 < x → next ≡ getD scratch (20000 + (x - 1)) 0 → Decides (Has r (i + (x - 1)) a b) y → y ≡ false → Seeking next
+  seek-on t w more e d f = walked-on t w more e (d .no f)
+
+module _ {r : List ℕ} {i n a b x : ℕ} (h : Run i n) (w : Seeking r i n a b x) where
+  pub seek-met : {y : Bool} → 0 < x → Decides (Has r (i + (x - 1)) a b) y → y ≡ true → Decides (Untaken r i n a b) false
+  seek-met more d f = decides-false (λ u. u .none (i + (x - 1)) (omega arith) (omega (arith, w .below, h .order)) (d .yes f))
+
+  pub seek-done : x ≤ 0 → Decides (Untaken r i n a b) true
+  seek-done l = decides-true (record { none = passed })
+    where
+      passed : (u : ℕ) → i ≤ u → u < n → Has r u a b → ⊥
+      passed u f m k =
+          let same : i + (u - i) ≡ u = add-sub-of-le f in
+          w .behind (u - i) (omega arith) (omega arith) (rw (same, k .first, k .second)) (rw same k)
+
+-- ---- the pairs entered one after the other
+
+-- those of the vertices below v are in the index, and none stands twice
+pub record Entering (r : List ℕ) (i n v : ℕ) (before scratch : List ℕ) : Type 0 where
+  pub swept : Swept (Single r i) i v
+  pub within : v ≤ n
+  pub size : length scratch ≡ length before
+  pub index : Indexed (pairAt r i) (v - i) 20000 scratch
+
+module _ {r : List ℕ} {i n : ℕ} (h : Run i n) where
+  pub entering-none : {scratch : List ℕ} → Fresh scratch → Entering r i n i scratch scratch
+  entering-none {scratch} f =
+      let none : i - i ≡ 0 = omega arith in
+      record { swept = swept-none i; within = h .order; size = refl; index = rw none (indexed-none (pairAt r i) 20000 scratch (omega (arith, f .size)) (f .clear)) }
+
+  module _ {v : ℕ} {before scratch : List ℕ} (k : Entering r i n v before scratch) where
+    pub entering-run : Run i v
+    entering-run = record { order = k .swept .reached; few = omega (arith, k .within, h .few) }
+
+    pub entered-all : n ≤ v → Entered r i n true scratch
+    entered-all l =
+        let all : v ≡ n = omega (arith, k .within) in
+        record { decides = swept-all (k .swept) l; index = λ e. rw all at (k .index) }
+
+    -- the pair of v, as it was read
+    module _ (l : v < n) {held : Record} (e : held ≡ recordAt r v) where
+      pub entered-twice : {y : Bool} → Decides (Untaken r i v (held .first) (held .second)) y → not y ≡ true → Entered r i n false scratch
+      entered-twice d t = record { decides = swept-failed (k .swept) l (λ s. refused d t (rw e s)); index = λ f. absurd (true≢false (sym f)) }
+
+      pub entering-on : {q : ℕ} {next : List ℕ} {y : Bool} → Decides (Untaken r i v (held .first) (held .second)) y → not y ≡ false → 40000 ≤ length before → q ≡ keyOf (held .first) (held .second) → next ≡ pushed scratch 20000 (v - i) q → Entering r i n (v + 1) before next
+      entering-on {q} {next} d t room f g =
+          let u : Untaken r i v (held .first) (held .second) = granted d t in
+          let same : i + (v - i) ≡ v = add-sub-of-le (k .swept .reached) in
+          let key : q ≡ pairAt r i (v - i) = rw same (rw e at f) in
+          let more : (v + 1) - i ≡ (v - i) + 1 = omega (arith, k .swept .reached) in
+          let low : pairAt r i (v - i) < 20000 = key-low _ _ in
+          record {
+            swept = swept-on (k .swept) (rw e at u);
+            within = omega arith;
+            size = rw g (pushed-length scratch 20000 (v - i) q ∙ k .size);
+            index = rw (more, g, key) (indexed-push-one (k .index) low (omega (arith, k .size, h .few)) (omega (arith, h .few)));
+          }
+
+pub entered-index : {r scratch : List ℕ} {i n : ℕ} {y : Bool} → Entered r i n y scratch → not y ≡ false → Indexed (pairAt r i) (n - i) 20000 scratch
+entered-index {y = y} e t = e .index (not-false y t)

@@ -1,0 +1,26 @@
+use Rattle.soundness.proofs.laws.Deciding.{decides-false, decides-same, refused, granted}
+use Rattle.soundness.proofs.laws.Pairs.{entered-index}
+use borrow.Author.Needs.{needs}
+use Rattle.soundness.proofs.steps.pairs_in.Statement.{statement}
+use Rattle.soundness.proofs.steps.pairs_in.Tie as tie
+
+enter-requires : tie.Need-enter-requires
+enter-requires c κs = search needs
+
+same-length : tie.Need-same-length
+same-length c = search needs
+
+returns : tie.Need-returns
+returns c = decides-false (λ p. refused (c .before .before .before .enter .ensures .decides) (c .if1 .taken) (p .single))
+
+conforms-requires : tie.Need-conforms-requires
+conforms-requires c κs = search (entered-index, needs)
+
+same-length-2 : tie.Need-same-length-2
+same-length-2 c = search needs
+
+returns-2 : tie.Need-returns-2
+returns-2 c = decides-same (λ w. record { single = granted (c .before .before .before .before .before .enter .ensures .decides) (c .before .before .if1 .left); whole = w }) (λ p. p .whole) (c .conforms .ensures)
+
+pub pairs-in-spec : {M : Type 1} → statement M
+pairs-in-spec = tie.close (tie.spec enter-requires same-length returns conforms-requires same-length-2 returns-2)

@@ -1,0 +1,60 @@
+// The pairs of parents, indexed by a key made of both: no pair stands twice (clause 6), and whether two vertices are a pair (clause 7). A vertex with very many others costs no more than any, since each of its pairs has a key of its own.
+use crate::family::wide;
+ghost use mathlib.Core.Path.{_≡_};
+ghost use Prim.Native.Nat.{_-_, _<_};
+ghost use lib.ListN.{length};
+ghost use Rattle.chain.specs.Chain.{Indexed};
+ghost use Rattle.soundness.specs.Check.{Decides, Fresh, Run, keyOf, pairAt, Has, Untaken, Entered};
+
+fn key(a: u32, b: u32) -> usize
+    ensures { λ k. ⌜ k ≡ keyOf a b ⌝ }
+    ensures { λ k. ⌜ k < 20000 ⌝ }
+{
+    (wide(a) * 7919 + wide(b)) % 19997
+}
+
+// Whether vertex v has the parents a and b.
+fn has(records: &[u32], v: usize, a: u32, b: u32) -> bool
+    ensures { λ r. ⌜ Decides (Has (now (records .entry)) v a b) r ⌝ }
+{
+    let held = tables::record::read(records, v);
+    if held.first == a {
+        return held.second == b;
+    }
+    false
+}
+
+// Whether no vertex from i on, below n, has the parents a and b; the index has the pairs of all of these.
+pub fn untaken(records: &[u32], scratch: &[u32], i: usize, n: usize, a: u32, b: u32) -> bool
+    requires { ⌜ Run i n ⌝ }
+    requires { ⌜ Indexed (pairAt (now records) i) (n - i) 20000 (now scratch) ⌝ }
+    ensures { λ r. ⌜ Decides (Untaken (now (records .entry)) i n a b) r ⌝ }
+{
+    let mut x = wide(scratch[key(a, b)]);
+    while 0 < x {
+        let s = x - 1;
+        if has(records, i + s, a, b) {
+            return false;
+        }
+        x = wide(scratch[20000 + s]);
+    }
+    true
+}
+
+// Enters the pairs of the vertices from i on, below n, up to the first pair that is there already.
+pub fn enter(records: &[u32], i: usize, n: usize, scratch: &mut [u32]) -> bool
+    requires { ⌜ Run i n ⌝ }
+    requires { ⌜ Fresh (now scratch) ⌝ }
+    ensures { λ r. ⌜ Entered (now (records .entry)) i n r (now (scratch .exit)) ⌝ }
+{
+    let mut v = i;
+    while v < n {
+        let held = tables::record::read(records, v);
+        if !untaken(records, scratch, i, v, held.first, held.second) {
+            return false;
+        }
+        chain::push(scratch, 20000, v - i, key(held.first, held.second));
+        v += 1;
+    }
+    true
+}
