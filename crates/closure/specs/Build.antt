@@ -4,7 +4,7 @@ use mathlib.Core.List.{List}
 use Prim.Native.Nat.{ℕ, _*_, _/_, _≤_, _<_}
 use lib.ListN.{length, getD}
 use Rattle.tables.specs.Layout.{rowWidth, noRow, rowAt}
-use Rattle.soundness.specs.Check.{corner}
+use Rattle.closure.specs.State.{corner}
 use Rattle.closure.specs.State.{linksAt, scratchLength}
 
 -- the first n rows can be put into the index

@@ -7,8 +7,8 @@ use lib.Ieee.{Float}
 use Rattle.tables.specs.declared.layout.Counts.{Counts}
 use Rattle.tables.specs.Mesh.{Lent}
 use Rattle.opening.specs.declared.answer.Verdict.the-variants.{Passed}
-use Rattle.soundness.specs.Sound.{Sound}
-use Rattle.soundness.specs.Check.{lent}
+use Rattle.sound.specs.Sound.{Sound}
+use Rattle.sound.specs.Check.{lent}
 use Rattle.frame.specs.Marks.{onMarks}
 use Rattle.frame.specs.Points.{filled}
 use Rattle.closure.specs.declared.answer.Refined.{Refined}

@@ -6,7 +6,7 @@ use lib.Ieee.{Float}
 use Rattle.split.specs.declared.point.Point.{Point}
 use Rattle.split.specs.Exact.{Whole}
 use Rattle.tables.specs.Mesh.{Mesh}
-use Rattle.soundness.specs.Sound.{vertices, pointOf, recordOf}
+use Rattle.sound.specs.Sound.{vertices, pointOf, recordOf}
 
 pub data Axis : Type 0 where
   x-axis : Axis

@@ -6,8 +6,8 @@ use Rattle.tables.specs.declared.layout.Counts.{Counts}
 use Rattle.tables.specs.Layout.{rowAt}
 use Rattle.tables.specs.Mesh.{Lent, meshOf}
 use Rattle.forest.specs.Element.{Forest, Element}
-use Rattle.soundness.specs.Sound.{Sound}
-use Rattle.soundness.specs.Forest.{forestOf, elementOf}
+use Rattle.sound.specs.Sound.{Sound}
+use Rattle.sound.specs.Forest.{forestOf, elementOf}
 use Rattle.closure.specs.declared.answer.Refined.the-variants.{Done}
 use Rattle.closure.specs.Refine.{Refines}
 

@@ -11,7 +11,7 @@ use Rattle.tables.specs.Mesh.{Lent, Mesh, meshOf, laid}
 use Rattle.tables.specs.Report.{Report, refusal, done}
 use Rattle.opening.specs.declared.answer.Found.the-variants.{At, Nowhere}
 use Rattle.opening.specs.Search.{first}
-use Rattle.soundness.specs.Sound.{Sound}
+use Rattle.sound.specs.Sound.{Sound}
 use Rattle.run.specs.Skeleton.{Skeleton, skeleton, meshed}
 use Rattle.run.specs.Run.{RunAll}
 use Rattle.run.specs.Demand.{Deep, Outgrows}

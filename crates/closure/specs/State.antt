@@ -12,7 +12,7 @@ use Rattle.tables.specs.declared.layout.Counts.{Counts}
 use Rattle.tables.specs.declared.record.Record.{Record}
 use Rattle.tables.specs.Layout.{rowWidth, recordWidth, noRecord, noRow, recordAt, rowAt}
 use Rattle.tables.specs.Mesh.{upTo}
-use Rattle.soundness.specs.Check.{corner}
+use Rattle.closure.specs.State.{corner}
 use Rattle.run.specs.Skeleton.{Skeleton}
 use Rattle.split.specs.Split.{Distinct}
 use Rattle.split.specs.Row.{cornersOf}

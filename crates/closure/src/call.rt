@@ -9,7 +9,7 @@ use frame::undo::undo;
 use opening::answer::Verdict;
 use tables::layout::Counts;
 ghost use Prim.Native.Nat.{_≤_};
-ghost use Rattle.soundness.specs.Check.{lent};
+ghost use Rattle.sound.specs.Check.{lent};
 ghost use Rattle.closure.specs.Call.{Finishes, Closable, Closes, Callable, Calls};
 
 // Fills in the points of the midpoints appended since the counts c, and answers.

@@ -16,7 +16,7 @@ mod step;
 use crate::answer::Refined;
 use crate::index::SCRATCH;
 use tables::layout::Counts;
-ghost use Rattle.soundness.specs.Check.{lent};
+ghost use Rattle.sound.specs.Check.{lent};
 ghost use Rattle.closure.specs.Refine.{Refines};
 
 // Refines all marked leaves with every neighbour that they force, or refuses and changes nothing.

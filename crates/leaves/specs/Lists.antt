@@ -8,7 +8,7 @@ use Rattle.split.specs.declared.row.Row.{Row}
 use Rattle.tables.specs.declared.layout.Counts.{Counts}
 use Rattle.tables.specs.Mesh.{Lent, meshOf, padded}
 use Rattle.tables.specs.Report.{Tally, unlisted, listed}
-use Rattle.soundness.specs.Sound.{Sound}
+use Rattle.sound.specs.Sound.{Sound}
 use Rattle.leaves.specs.declared.answer.Listed.{Listed}
 use Rattle.leaves.specs.declared.answer.Listed.the-variants.{Done, Refused}
 use Rattle.leaves.specs.Listing.{levelIn, listing}

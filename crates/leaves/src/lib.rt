@@ -6,7 +6,7 @@ mod walk;
 
 use crate::answer::Listed;
 use tables::layout::Counts;
-ghost use Rattle.soundness.specs.Check.{lent};
+ghost use Rattle.sound.specs.Check.{lent};
 ghost use Rattle.leaves.specs.Lists.{Lists};
 
 // Lists the leaves' rows in one list and their levels in the other, or refuses and changes nothing.

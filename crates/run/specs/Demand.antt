@@ -8,7 +8,7 @@ use Rattle.tables.specs.Mesh.{Mesh}
 use Rattle.forest.specs.Element.{Name, Element, depth, middle, shape}
 use Rattle.forest.specs.Closed.{Forced}
 use Rattle.forest.specs.Union.{Either}
-use Rattle.soundness.specs.Forest.{forestOf, elementOf, SplitOf}
+use Rattle.sound.specs.Forest.{forestOf, elementOf, SplitOf}
 
 -- e is the element of a marked row
 pub record MarkedIn (m : Mesh) (t : ℕ) (marks : List ℕ) (e : Element) : Type 0 where

@@ -11,8 +11,8 @@ use Rattle.split.specs.Split.{Side, left, right}
 use Rattle.tables.specs.Mesh.{Mesh}
 use Rattle.forest.specs.Element.{Element, Element-discrete}
 use Rattle.opening.specs.Search.{any}
-use Rattle.soundness.specs.Sound.{rows, rowOf}
-use Rattle.soundness.specs.Forest.{elementOf}
+use Rattle.sound.specs.Sound.{rows, rowOf}
+use Rattle.sound.specs.Forest.{elementOf}
 
 -- e is the element of a row without children
 pub record LeafOf (m : Mesh) (t : ℕ) (e : Element) : Type 0 where

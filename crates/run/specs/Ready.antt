@@ -10,8 +10,8 @@ use Rattle.tables.specs.Mesh.{Mesh}
 use Rattle.forest.specs.Element.{shape}
 use Rattle.forest.specs.Generation.{rank, edgeGen}
 use Rattle.opening.specs.Search.{count}
-use Rattle.soundness.specs.Sound.{Grown, Conforming}
-use Rattle.soundness.specs.Forest.{forestOf, colourIn, largestIn, elementOf}
+use Rattle.sound.specs.Sound.{Grown, Conforming}
+use Rattle.sound.specs.Forest.{forestOf, colourIn, largestIn, elementOf}
 use Rattle.run.specs.Skeleton.{Skeleton, rowIn, meshed}
 use Rattle.run.specs.Run.{Run}
 

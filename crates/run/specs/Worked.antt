@@ -12,8 +12,8 @@ use Rattle.tables.specs.Layout.{noFloat}
 use Rattle.tables.specs.Mesh.{Mesh}
 use Rattle.forest.specs.Element.{Element, el}
 use Rattle.opening.specs.Opening.{initial, openedMesh}
-use Rattle.soundness.specs.Sound.{rowOf}
-use Rattle.soundness.specs.Forest.{elementOf}
+use Rattle.sound.specs.Sound.{rowOf}
+use Rattle.sound.specs.Forest.{elementOf}
 use Rattle.run.specs.Skeleton.{Skeleton, skeleton}
 use Rattle.run.specs.Compute.{refineCalls}
 

@@ -1,3 +1,1 @@
-pub mod Sound
-pub mod Forest
 pub mod Check

@@ -2,7 +2,8 @@
 use crate::pairs::untaken;
 ghost use Prim.Native.Nat.{_-_, min, max};
 ghost use Rattle.chain.specs.Chain.{Indexed};
-ghost use Rattle.soundness.specs.Check.{Decides, Run, Rising, pairAt, Untaken, Whole, AllWhole};
+ghost use Rattle.sound.specs.Check.{Decides};
+ghost use Rattle.soundness.specs.Check.{Run, Rising, pairAt, Untaken, Whole, AllWhole};
 
 // Whether a and b are the parents of no midpoint, in either order.
 fn unpaired(records: &[u32], scratch: &[u32], i: usize, n: usize, a: u32, b: u32) -> bool

@@ -1,10 +1,11 @@
 // The pairs of parents, indexed by a key made of both: no pair stands twice (clause 6), and whether two vertices are a pair (clause 7). A vertex with very many others costs no more than any, since each of its pairs has a key of its own.
-use crate::family::wide;
+use chain::wide;
 ghost use mathlib.Core.Path.{_≡_};
 ghost use Prim.Native.Nat.{_-_, _<_};
 ghost use lib.ListN.{length};
 ghost use Rattle.chain.specs.Chain.{Indexed};
-ghost use Rattle.soundness.specs.Check.{Decides, Fresh, Run, keyOf, pairAt, Has, Untaken, Entered};
+ghost use Rattle.sound.specs.Check.{Decides};
+ghost use Rattle.soundness.specs.Check.{Fresh, Run, keyOf, pairAt, Has, Untaken, Entered};
 
 fn key(a: u32, b: u32) -> usize
     ensures { λ k. ⌜ k ≡ keyOf a b ⌝ }

@@ -5,8 +5,8 @@ ghost use Prim.Native.Nat.{_*_, _≤_};
 ghost use lib.ListN.{length, take, set};
 ghost use Rattle.tables.specs.Layout.{rowAt};
 ghost use Rattle.tables.specs.Mesh.{meshOf, flat, upTo};
-ghost use Rattle.soundness.specs.Sound.{Afresh, vertexCells, Fitting};
-ghost use Rattle.soundness.specs.Check.{Decides, lent};
+ghost use Rattle.sound.specs.Sound.{Afresh, vertexCells, Fitting};
+ghost use Rattle.sound.specs.Check.{Decides, lent};
 
 // Stores a number where the table has the place.
 fn put(table: &mut [u32], i: usize, x: u32)

@@ -5,7 +5,7 @@ use Prim.Native.Nat.{ℕ, _≤_}
 use lib.ListN.{length}
 use Rattle.tables.specs.declared.layout.Counts.{Counts}
 use Rattle.tables.specs.Mesh.{Lent}
-use Rattle.soundness.specs.Sound.{Sound}
+use Rattle.sound.specs.Sound.{Sound}
 use Rattle.text.specs.Input.{Input}
 use Rattle.text.specs.Putting.{Room, Puts}
 use Rattle.text.specs.Program.{Refining, Outcome, opens}

@@ -8,7 +8,7 @@ use closure::answer::Refined;
 use leaves::answer::Listed;
 use tables::layout::Counts;
 ghost use Rattle.tables.specs.Report.{done, refusal};
-ghost use Rattle.soundness.specs.Check.{lent};
+ghost use Rattle.sound.specs.Check.{lent};
 ghost use Rattle.closure.specs.declared.answer.Refined.the-variants.{Done};
 ghost use Rattle.text.specs.Putting.{Puts};
 ghost use Rattle.text.specs.Program.{headline, leafLines, refinedText};

@@ -11,10 +11,10 @@ use Rattle.tables.specs.Mesh.{Lent, Mesh, meshOf, laid}
 use Rattle.tables.proofs.laws.View as view
 use Rattle.tables.proofs.laws.Rows as table
 use Rattle.forest.specs.Element.{Element}
-use Rattle.soundness.specs.Sound.{vertices, rows, Grown, Sound}
-use Rattle.soundness.specs.Forest.{SplitOf, splitsIn}
-use Rattle.soundness.proofs.laws.Count.{rows-count}
-use Rattle.soundness.proofs.laws.Laid.{laid-sound}
+use Rattle.sound.specs.Sound.{vertices, rows, Grown, Sound}
+use Rattle.sound.specs.Forest.{SplitOf, splitsIn}
+use Rattle.sound.proofs.laws.Count.{rows-count}
+use Rattle.sound.proofs.laws.Laid.{laid-sound}
 use Rattle.run.specs.Skeleton.{Skeleton, skeleton, meshed}
 use Rattle.run.specs.Run.{Within}
 use Rattle.run.specs.Demand.{Needed}

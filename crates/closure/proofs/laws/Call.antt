@@ -20,8 +20,9 @@ use Rattle.opening.specs.declared.answer.Found.the-variants.{At, Nowhere}
 use Rattle.opening.specs.declared.answer.Verdict.{Verdict}
 use Rattle.opening.specs.declared.answer.Verdict.the-variants as verdict
 use Rattle.opening.specs.Search.{first}
-use Rattle.soundness.specs.Sound.{Sound}
-use Rattle.soundness.specs.Check.{Decides, Cleared, lent}
+use Rattle.sound.specs.Sound.{Sound}
+use Rattle.sound.specs.Check.{Decides, lent}
+use Rattle.soundness.specs.Check.{Cleared}
 use Rattle.run.specs.Skeleton.{Skeleton, meshed, extended}
 use Rattle.run.specs.Ready.{Reach}
 use Rattle.run.specs.Run.{Within}

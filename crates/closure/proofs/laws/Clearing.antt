@@ -10,7 +10,7 @@ use Rattle.tables.specs.declared.layout.Counts.{Counts}
 use Rattle.tables.specs.Layout.{noRow, recordAt, rowAt}
 use Rattle.tables.proofs.laws.View.{length-up-to, up-to-at}
 use Rattle.opening.specs.declared.answer.Found.the-variants.{At, Nowhere}
-use Rattle.soundness.proofs.laws.Placed.{row-distinct}
+use Rattle.sound.proofs.laws.Placed.{row-distinct}
 use Rattle.run.specs.Skeleton.{Skeleton}
 use Rattle.run.specs.Ready.{Ready, Open, Reach, rankIn}
 use Rattle.run.specs.Ready as ready

@@ -10,7 +10,7 @@ use Rattle.tables.specs.Layout.{recordCells, rowCells, recordAt, rowAt, roomOf}
 use Rattle.tables.specs.Mesh.{Lent, meshOf, laid, upTo, flat, padded}
 use Rattle.opening.specs.declared.answer.Found.the-variants.{Nowhere}
 use Rattle.opening.specs.Search.{first}
-use Rattle.soundness.specs.Sound.{Sound}
+use Rattle.sound.specs.Sound.{Sound}
 use Rattle.run.specs.Skeleton.{Skeleton, skeleton}
 use Rattle.run.specs.Run.{RunAll, Within}
 use Rattle.run.specs.Demand.{Deep, Outgrows}

@@ -29,7 +29,7 @@ use Rattle.closure.specs.declared.step.Step.{Step}
 use Rattle.closure.specs.declared.step.Step.the-variants.{Done, Full}
 use Rattle.closure.specs.State.{rowsOf, recordsOf, seen, scratchLength, patchIn, State, Patchable, Parted}
 use Rattle.closure.specs.Refining.{Tables, Sure, Ran, Jammed, Refines, fitsIn, Patched, Cuttable}
-use Rattle.soundness.proofs.laws.Searches.{and-both}
+use Rattle.sound.proofs.laws.Searches.{and-both}
 use Rattle.closure.proofs.laws.Answers.{done-counts, full-counts, done-full}
 use Rattle.closure.proofs.laws.Rows.{record-other, records-next}
 

@@ -14,9 +14,10 @@ use Rattle.tables.specs.declared.layout.Counts.{Counts}
 use Rattle.tables.specs.Layout.{rowWidth, recordWidth, pointWidth, noRow, pointAt, recordAt, rowAt, roomOf}
 use Rattle.tables.specs.Mesh.{Mesh, meshOf}
 use Rattle.tables.proofs.laws.View.{length-up-to, up-to-at}
-use Rattle.soundness.specs.Sound.{Sound}
-use Rattle.soundness.specs.Check.{corner, lent}
-use Rattle.soundness.proofs.laws.Placed.{placed}
+use Rattle.sound.specs.Sound.{Sound}
+use Rattle.closure.specs.State.{corner}
+use Rattle.sound.specs.Check.{lent}
+use Rattle.sound.proofs.laws.Placed.{placed}
 use Rattle.run.specs.Skeleton.{Skeleton, meshed}
 use Rattle.run.specs.Ready.{Ready}
 use Rattle.run.proofs.laws.Points.{points-own}

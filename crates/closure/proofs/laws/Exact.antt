@@ -19,7 +19,7 @@ use Rattle.tables.specs.declared.layout.Counts.{Counts}
 use Rattle.tables.specs.declared.record.Record.{Record}
 use Rattle.tables.specs.Layout.{pointAt, recordAt}
 use Rattle.tables.specs.Mesh.{Lent, Mesh, meshOf}
-use Rattle.soundness.specs.Sound.{vertices, pointOf, recordOf, Grown, Sound}
+use Rattle.sound.specs.Sound.{vertices, pointOf, recordOf, Grown, Sound}
 use Rattle.closure.specs.declared.answer.Refined.the-variants.{Done}
 use Rattle.closure.specs.Refine.{Refines}
 use Rattle.closure.specs.Exact.{Axis, x-axis, y-axis, z-axis, along, Steps, initial, midpoint, WholeStart}

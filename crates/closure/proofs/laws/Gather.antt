@@ -21,7 +21,7 @@ use Rattle.tables.specs.Layout.{noRow, rowAt}
 use Rattle.tables.specs.Mesh.{upTo}
 use Rattle.tables.proofs.laws.View.{length-up-to, up-to-at}
 use Rattle.opening.proofs.laws.Indexing.{indexed-kept}
-use Rattle.soundness.specs.Check.{corner}
+use Rattle.closure.specs.State.{corner}
 use Rattle.run.specs.Skeleton.{rowIn}
 use Rattle.run.specs.Run.{has, holding, holdersFrom, holders}
 use Rattle.run.proofs.laws.Holders.{has-holds, holds-has, Holding, holding-is, is-holding, from-hit, from-miss}

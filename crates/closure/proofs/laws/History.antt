@@ -7,8 +7,8 @@ use Rattle.tables.specs.declared.layout.Counts.{Counts}
 use Rattle.tables.specs.Mesh.{Lent, Mesh, meshOf}
 use Rattle.forest.specs.Element.{Forest, Element}
 use Rattle.forest.specs.History.{Marked}
-use Rattle.soundness.specs.Sound.{Sound}
-use Rattle.soundness.specs.Forest.{forestOf, elementOf, SplitOf}
+use Rattle.sound.specs.Sound.{Sound}
+use Rattle.sound.specs.Forest.{forestOf, elementOf, SplitOf}
 use Rattle.run.proofs.laws.Calls.{After, after-none, after-call, same-splits}
 use Rattle.closure.specs.declared.answer.Refined.the-variants.{Done}
 use Rattle.closure.specs.Refine.{Refines}

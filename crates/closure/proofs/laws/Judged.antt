@@ -20,10 +20,10 @@ use Rattle.opening.specs.declared.answer.Verdict.the-variants.{Passed, Refused}
 use Rattle.opening.specs.Search.{first, any}
 use Rattle.opening.specs.Opening.{at, when}
 use Rattle.opening.proofs.laws.Search.{first-none, any-has, any-some}
-use Rattle.soundness.specs.Sound.{Sound}
-use Rattle.soundness.proofs.laws.Searches.{and-both}
-use Rattle.soundness.specs.Check.{lent}
-use Rattle.soundness.proofs.laws.Placed.{placed}
+use Rattle.sound.specs.Sound.{Sound}
+use Rattle.sound.proofs.laws.Searches.{and-both}
+use Rattle.sound.specs.Check.{lent}
+use Rattle.sound.proofs.laws.Placed.{placed}
 use Rattle.run.specs.Demand.{Deep}
 use Rattle.run.specs.Skeleton.{meshed}
 use Rattle.run.proofs.laws.Marks.{Markable, AllMarkable}

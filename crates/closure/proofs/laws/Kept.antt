@@ -10,7 +10,7 @@ use Rattle.tables.specs.declared.record.Record.{Record}
 use Rattle.tables.specs.Layout.{noPoint, noRecord, noRow, pointAt, recordAt, rowAt}
 use Rattle.tables.specs.Mesh.{Lent, Mesh, meshOf}
 use Rattle.tables.proofs.laws.View.{length-up-to, up-to-at}
-use Rattle.soundness.specs.Sound.{pointOf, recordOf, rowOf, childless, Sound}
+use Rattle.sound.specs.Sound.{pointOf, recordOf, rowOf, childless, Sound}
 use Rattle.run.specs.Skeleton.{extended}
 use Rattle.run.proofs.laws.Points.{halfway}
 use Rattle.closure.specs.declared.answer.Refined.the-variants.{Done}

@@ -5,7 +5,7 @@ use Rattle.tables.specs.declared.layout.Counts.{Counts}
 use Rattle.tables.specs.Mesh.{Lent, meshOf}
 use Rattle.forest.specs.Element.{el}
 use Rattle.forest.specs.LeafSum.{leavesFrom}
-use Rattle.soundness.specs.Sound.{Sound}
+use Rattle.sound.specs.Sound.{Sound}
 use Rattle.run.specs.Leaves.{splitIn}
 use Rattle.run.proofs.laws.LeafSum.{Summed, table-leaves}
 use Rattle.closure.proofs.laws.Taken.{sound-mesh, sound-ready}

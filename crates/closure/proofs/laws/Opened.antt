@@ -18,10 +18,10 @@ use Rattle.opening.specs.Order.{rootOf}
 use Rattle.opening.specs.Opening as opening
 use Rattle.opening.specs.Opening.{judged, openedMesh, verdictOn, Opens}
 use Rattle.opening.proofs.laws.Passed.{roomy-passed}
-use Rattle.soundness.specs.Sound.{vertices, rows, rowOf, Parted, Sound}
-use Rattle.soundness.specs.Forest.{forestOf}
-use Rattle.soundness.proofs.laws.Tested.{tested}
-use Rattle.soundness.proofs.laws.Opened.{opened-sound}
+use Rattle.sound.specs.Sound.{vertices, rows, rowOf, Parted, Sound}
+use Rattle.sound.specs.Forest.{forestOf}
+use Rattle.sound.proofs.laws.Tested.{tested}
+use Rattle.sound.proofs.laws.Opened.{opened-sound}
 use Rattle.closure.specs.History.{Unsplit, History, opened}
 use Rattle.closure.proofs.laws.Taken.{sound-rows}
 use Rattle.closure.proofs.laws.Kept.{mesh-row}

@@ -15,7 +15,7 @@ use Rattle.tables.specs.Layout.{pointWidth, noPoint, pointAt, putPoint, recordA
 use Rattle.tables.specs.Mesh.{upTo}
 use Rattle.tables.proofs.laws.Rows.{points, length-put-point, point-put}
 use Rattle.tables.proofs.laws.View.{up-to-next, length-up-to, up-to-at}
-use Rattle.soundness.proofs.laws.Flat.{up-to-same}
+use Rattle.sound.proofs.laws.Flat.{up-to-same}
 use Rattle.run.specs.Skeleton.{extended}
 use Rattle.run.proofs.laws.Points.{halfway, points-next}
 use Rattle.frame.specs.Points.{halfwayAt, withPoint, filled}

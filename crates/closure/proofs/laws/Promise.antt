@@ -10,7 +10,7 @@ use Rattle.tables.specs.Mesh.{Lent, Mesh, meshOf, laid}
 use Rattle.tables.specs.Report.{Report}
 use Rattle.opening.specs.declared.answer.Found.{Found}
 use Rattle.opening.specs.declared.answer.Found.the-variants.{At, Nowhere}
-use Rattle.soundness.specs.Sound.{Parted, Sound}
+use Rattle.sound.specs.Sound.{Parted, Sound}
 use Rattle.run.specs.Skeleton.{Skeleton, meshed}
 use Rattle.run.proofs.laws.Unique.{run-all-unique}
 use Rattle.closure.specs.declared.answer.Refined.{Refined}

@@ -8,7 +8,7 @@ use borrow.Author.Tests.{le-leb, lt-leb}
 use Rattle.split.specs.declared.row.Row.{Row}
 use Rattle.split.proofs.laws.Places.{le-or-lt}
 use Rattle.tables.specs.Mesh.{Mesh}
-use Rattle.soundness.specs.Sound.{rows, rowOf, childless, Grown}
+use Rattle.sound.specs.Sound.{rows, rowOf, childless, Grown}
 use Rattle.run.specs.Run.{withChild}
 use Rattle.run.proofs.laws.Grows.{Grows}
 use Rattle.frame.specs.Undo.{restored}

@@ -12,7 +12,7 @@ use Rattle.tables.specs.Layout.{recordWidth, rowWidth, noRecord, noRow, recordA
 use Rattle.tables.specs.Mesh.{upTo}
 use Rattle.tables.proofs.laws.Rows.{rows, records, row-put, record-put}
 use Rattle.tables.proofs.laws.View.{up-to-next, length-up-to, up-to-at}
-use Rattle.soundness.proofs.laws.Flat.{up-to-same}
+use Rattle.sound.proofs.laws.Flat.{up-to-same}
 use Rattle.closure.specs.State.{rowsOf, recordsOf}
 use Rattle.closure.proofs.laws.Tables.{put-other}
 

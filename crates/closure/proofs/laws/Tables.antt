@@ -13,7 +13,7 @@ use Rattle.tables.specs.Mesh.{upTo, flat}
 use Rattle.tables.proofs.laws.Table.{Table, at-past, at-put-other, length-put}
 use Rattle.tables.proofs.laws.Rows.{rows, records, points}
 use Rattle.tables.proofs.laws.View.{flat-up-to}
-use Rattle.soundness.proofs.laws.Flat.{up-to-same}
+use Rattle.sound.proofs.laws.Flat.{up-to-same}
 
 module _ {A B : Type 0} {w : ℕ} {cells : A → List B} {from : List B → ℕ → A} {none : A} {at : List B → ℕ → A} {put : List B → ℕ → A → List B} (t : Table w cells from none at put) where
   -- a thing that is not replaced, wherever it is

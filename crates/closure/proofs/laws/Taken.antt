@@ -10,7 +10,7 @@ use Rattle.tables.specs.Mesh.{Lent, meshOf}
 use Rattle.tables.proofs.laws.View as view
 use Rattle.opening.specs.declared.answer.Found.the-variants.{Nowhere}
 use Rattle.opening.specs.Search.{first}
-use Rattle.soundness.specs.Sound.{vertices, rows, Sound}
+use Rattle.sound.specs.Sound.{vertices, rows, Sound}
 use Rattle.run.specs.Skeleton.{skeleton, meshed}
 use Rattle.run.specs.Ready.{Ready}
 use Rattle.run.specs.Run.{Within}

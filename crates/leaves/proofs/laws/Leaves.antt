@@ -17,12 +17,12 @@ use Rattle.forest.specs.Element.{Element, el}
 use Rattle.forest.specs.Shallow.{rootOf}
 use Rattle.forest.specs.LeafSum.{leavesFrom}
 use Rattle.opening.specs.Search.{count}
-use Rattle.soundness.specs.Sound.{rows, rowOf, Grown}
-use Rattle.soundness.specs.Forest.{elementOf, splitsIn}
-use Rattle.soundness.proofs.laws.Afresh.{root-depth}
-use Rattle.soundness.proofs.laws.Elements.{root-element, one-row}
-use Rattle.soundness.proofs.laws.Placed.{placed}
-use Rattle.soundness.proofs.laws.Count.{rows-count}
+use Rattle.sound.specs.Sound.{rows, rowOf, Grown}
+use Rattle.sound.specs.Forest.{elementOf, splitsIn}
+use Rattle.sound.proofs.laws.Afresh.{root-depth}
+use Rattle.sound.proofs.laws.Elements.{root-element, one-row}
+use Rattle.sound.proofs.laws.Placed.{placed}
+use Rattle.sound.proofs.laws.Count.{rows-count}
 use Rattle.run.specs.Leaves.{splitIn}
 use Rattle.run.proofs.laws.LeafSum.{Summed}
 use Rattle.leaves.specs.Listing.{listingFrom, treeOf, treesBelow, listing, weightsOf}

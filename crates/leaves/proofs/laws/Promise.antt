@@ -10,8 +10,8 @@ use Rattle.split.specs.declared.row.Row.{Row}
 use Rattle.tables.specs.declared.layout.Counts.{Counts}
 use Rattle.tables.specs.Mesh.{Lent, meshOf}
 use Rattle.tables.specs.Report.{Tally}
-use Rattle.soundness.specs.Sound.{Sound}
-use Rattle.soundness.specs.Check.{Decides, lent}
+use Rattle.sound.specs.Sound.{Sound}
+use Rattle.sound.specs.Check.{Decides, lent}
 use Rattle.leaves.specs.declared.answer.Listed.{Listed}
 use Rattle.leaves.specs.declared.answer.Listed.the-variants.{Done, Refused}
 use Rattle.leaves.specs.Lists.{reported, Refuses, OnRoom, short, fits, Lists, unsound, sound}

@@ -15,10 +15,10 @@ use Rattle.tables.specs.Mesh.{Lent, Mesh, meshOf}
 use Rattle.tables.proofs.laws.View.{length-up-to, up-to-at}
 use Rattle.opening.specs.Search.{count}
 use Rattle.opening.proofs.laws.Counting.{count-same}
-use Rattle.soundness.specs.Sound.{rows, rowOf, Sound}
-use Rattle.soundness.specs.Forest.{splitsIn}
-use Rattle.soundness.specs.Check.{lent}
-use Rattle.soundness.proofs.laws.Afresh.{root-depth}
+use Rattle.sound.specs.Sound.{rows, rowOf, Sound}
+use Rattle.sound.specs.Forest.{splitsIn}
+use Rattle.sound.specs.Check.{lent}
+use Rattle.sound.proofs.laws.Afresh.{root-depth}
 use Rattle.run.proofs.laws.Demanded.{split-shallow}
 use Rattle.closure.proofs.laws.Blank.{rows-blank}
 use Rattle.closure.proofs.laws.Entry.{roomy}

@@ -13,12 +13,12 @@ use Rattle.tables.specs.Mesh.{Mesh}
 use Rattle.forest.specs.Element.{Element, el, depth}
 use Rattle.forest.specs.Shallow.{rootOf}
 use Rattle.forest.specs.LeafSum.{leavesFrom}
-use Rattle.soundness.specs.Sound.{rows, rowOf, place, Grown}
-use Rattle.soundness.specs.Forest.{grown, elementOf}
-use Rattle.soundness.proofs.laws.Elements.{grown-root, grown-depth}
-use Rattle.soundness.proofs.laws.Placed.{placed}
-use Rattle.soundness.proofs.laws.Offspring.{place-below, place-element}
-use Rattle.soundness.proofs.laws.Splits.{split-row}
+use Rattle.sound.specs.Sound.{rows, rowOf, place, Grown}
+use Rattle.sound.specs.Forest.{grown, elementOf}
+use Rattle.sound.proofs.laws.Elements.{grown-root, grown-depth}
+use Rattle.sound.proofs.laws.Placed.{placed}
+use Rattle.sound.proofs.laws.Offspring.{place-below, place-element}
+use Rattle.sound.proofs.laws.Splits.{split-row}
 use Rattle.run.specs.Skeleton.{rowIn}
 use Rattle.run.specs.Leaves.{splitIn}
 use Rattle.run.proofs.laws.Demanded.{split-shallow}

@@ -11,8 +11,8 @@ use Rattle.forest.specs.Union.{Either}
 use Rattle.forest.specs.History.{Marked, called}
 use Rattle.forest.proofs.Forced.{forced-monotone}
 use Rattle.forest.proofs.History.{order-free}
-use Rattle.soundness.specs.Sound.{rows, rowOf}
-use Rattle.soundness.specs.Forest.{forestOf, elementOf, SplitOf}
+use Rattle.sound.specs.Sound.{rows, rowOf}
+use Rattle.sound.specs.Forest.{forestOf, elementOf, SplitOf}
 use Rattle.run.specs.Ready.{Ready}
 use Rattle.run.specs.Skeleton.{Skeleton, meshed}
 use Rattle.run.specs.Run.{RunAll}

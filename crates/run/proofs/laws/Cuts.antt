@@ -18,8 +18,8 @@ use Rattle.split.proofs.laws.Ends.{ends-rising, ends-falling}
 use Rattle.split.proofs.laws.Rows.{row-step, deeper-is}
 use Rattle.tables.specs.declared.record.Record.{Record}
 use Rattle.tables.specs.Mesh.{Mesh, flat}
-use Rattle.soundness.specs.Sound.{vertices, rows, pointOf, recordOf, rowOf, childless, vertexCells, givenPoints, givenElements, Parted, Afresh, Records, place, Child, Parent, Midpoint, Grown}
-use Rattle.soundness.proofs.laws.Placed.{Placed, placed, row-distinct}
+use Rattle.sound.specs.Sound.{vertices, rows, pointOf, recordOf, rowOf, childless, vertexCells, givenPoints, givenElements, Parted, Afresh, Records, place, Child, Parent, Midpoint, Grown}
+use Rattle.sound.proofs.laws.Placed.{Placed, placed, row-distinct}
 use Rattle.run.specs.Run.{withChild}
 
 -- m' is m with the leaf s split at the vertex v, which may be new

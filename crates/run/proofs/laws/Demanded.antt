@@ -15,13 +15,13 @@ use Rattle.forest.specs.Union.{Either}
 use Rattle.forest.specs.Shallow.{Shallow}
 use Rattle.forest.proofs.Forced.{forced-closed, forced-least}
 use Rattle.forest.proofs.Theory.{forced-shallow}
-use Rattle.soundness.specs.Sound.{rows, rowOf, Grown}
-use Rattle.soundness.specs.Forest.{forestOf, colourIn, largestIn, elementOf, SplitOf}
-use Rattle.soundness.proofs.laws.Afresh.{coloured}
-use Rattle.soundness.proofs.laws.Elements.{grown-depth}
-use Rattle.soundness.proofs.laws.Offspring.{place-below, place-element}
-use Rattle.soundness.proofs.laws.Placed.{placed}
-use Rattle.soundness.proofs.laws.Splits.{splits-closed}
+use Rattle.sound.specs.Sound.{rows, rowOf, Grown}
+use Rattle.sound.specs.Forest.{forestOf, colourIn, largestIn, elementOf, SplitOf}
+use Rattle.sound.proofs.laws.Afresh.{coloured}
+use Rattle.sound.proofs.laws.Elements.{grown-depth}
+use Rattle.sound.proofs.laws.Offspring.{place-below, place-element}
+use Rattle.sound.proofs.laws.Placed.{placed}
+use Rattle.sound.proofs.laws.Splits.{splits-closed}
 use Rattle.run.specs.Ready.{Ready}
 use Rattle.run.specs.Skeleton.{Skeleton, rowIn, meshed}
 use Rattle.run.specs.Run.{RunAll}

@@ -16,12 +16,12 @@ use Rattle.forest.specs.Generation.{rank, edgeGen}
 use Rattle.forest.proofs.Shallow.{too-deep}
 use Rattle.forest.proofs.Blocking.{SameEdge}
 use Rattle.forest.proofs.Theory.{blocking}
-use Rattle.soundness.specs.Sound.{vertices, rows, rowOf, Grown}
-use Rattle.soundness.specs.Forest.{forestOf, colourIn, largestIn, nameOf, elementOf}
+use Rattle.sound.specs.Sound.{vertices, rows, rowOf, Grown}
+use Rattle.sound.specs.Forest.{forestOf, colourIn, largestIn, nameOf, elementOf}
 use Rattle.run.specs.Ready.{edgeRank}
-use Rattle.soundness.proofs.laws.Afresh.{coloured}
-use Rattle.soundness.proofs.laws.Names.{one-vertex, kept, swapped, sorted-ends}
-use Rattle.soundness.proofs.laws.Placed.{Placed, placed, placed-at, placed-near, placed-away, placed-fits, row-fits}
+use Rattle.sound.proofs.laws.Afresh.{coloured}
+use Rattle.sound.proofs.laws.Names.{one-vertex, kept, swapped, sorted-ends}
+use Rattle.sound.proofs.laws.Placed.{Placed, placed, placed-at, placed-near, placed-away, placed-fits, row-fits}
 
 -- the row holds both ends of e
 pub record Both (r : Row) (e : Ends) : Type 0 where

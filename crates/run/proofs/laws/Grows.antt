@@ -14,11 +14,11 @@ use Rattle.tables.specs.declared.record.Record.{Record}
 use Rattle.tables.specs.Layout.{noRecord, noRow}
 use Rattle.tables.specs.Mesh.{Mesh}
 use Rattle.forest.specs.Element.{Name, Forest, Element}
-use Rattle.soundness.specs.Sound.{vertices, rows, recordOf, rowOf, childless, place, Grown}
-use Rattle.soundness.specs.Forest.{forestOf, colourIn, largestIn, joint, nameOf, grown, elementOf, SplitOf}
-use Rattle.soundness.proofs.laws.Names.{name-initial, name-midpoint}
-use Rattle.soundness.proofs.laws.Elements.{root-element, child-element}
-use Rattle.soundness.proofs.laws.Offspring.{place-apart, place-element}
+use Rattle.sound.specs.Sound.{vertices, rows, recordOf, rowOf, childless, place, Grown}
+use Rattle.sound.specs.Forest.{forestOf, colourIn, largestIn, joint, nameOf, grown, elementOf, SplitOf}
+use Rattle.sound.proofs.laws.Names.{name-initial, name-midpoint}
+use Rattle.sound.proofs.laws.Elements.{root-element, child-element}
+use Rattle.sound.proofs.laws.Offspring.{place-apart, place-element}
 use Rattle.run.proofs.laws.Cuts.{Cuts, row-kept, split-kept, parent-kept, before, next, either, cut-grown}
 
 pub record Grows (m m' : Mesh) (i t : ℕ) : Type 0 where

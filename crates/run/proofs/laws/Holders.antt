@@ -15,7 +15,7 @@ use Rattle.split.specs.Split.{Corners, at, Holds}
 use Rattle.split.specs.Row.{cornersOf, edgeOf}
 use Rattle.opening.specs.declared.answer.Found.{Found}
 use Rattle.opening.specs.declared.answer.Found.the-variants.{At, Nowhere}
-use Rattle.soundness.proofs.laws.Searches.{and-both}
+use Rattle.sound.proofs.laws.Searches.{and-both}
 use Rattle.run.specs.Skeleton.{rowIn}
 use Rattle.run.specs.Run.{has, holding, holdersFrom, holders, sameEnds, otherIn, blocking}
 

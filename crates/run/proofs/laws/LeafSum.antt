@@ -15,10 +15,10 @@ use Rattle.forest.specs.Closed.{Present, Leaf, Closed}
 use Rattle.forest.specs.LeafSum.{leavesFrom, total}
 use Rattle.forest.proofs.LeafSum.{leaf-sum, leaves-once, forest-leaves}
 use Rattle.opening.proofs.laws.Search.{any-has, any-some}
-use Rattle.soundness.specs.Sound.{rows, rowOf, Grown, Conforming}
-use Rattle.soundness.specs.Forest.{forestOf, elementOf, SplitOf}
-use Rattle.soundness.proofs.laws.Placed.{placed}
-use Rattle.soundness.proofs.laws.Splits.{splits-closed, present-row, leaf-row}
+use Rattle.sound.specs.Sound.{rows, rowOf, Grown, Conforming}
+use Rattle.sound.specs.Forest.{forestOf, elementOf, SplitOf}
+use Rattle.sound.proofs.laws.Placed.{placed}
+use Rattle.sound.proofs.laws.Splits.{splits-closed, present-row, leaf-row}
 use Rattle.run.specs.Ready.{Ready}
 use Rattle.run.specs.Skeleton.{Skeleton, meshed}
 use Rattle.run.specs.Leaves.{LeafOf, element-same, splitAs, splitIn}

@@ -10,7 +10,7 @@ use Rattle.split.specs.declared.row.Row.{Row}
 use Rattle.split.specs.Row.{firstOf, secondOf}
 use Rattle.split.proofs.laws.Places.{le-or-lt}
 use Rattle.tables.specs.Layout.{noRow}
-use Rattle.soundness.specs.Sound.{childless}
+use Rattle.sound.specs.Sound.{childless}
 use Rattle.run.specs.Skeleton.{rowIn}
 use Rattle.run.specs.Run.{withChild, cut}
 

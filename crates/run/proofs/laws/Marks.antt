@@ -10,7 +10,7 @@ use Rattle.split.specs.declared.row.Row.{Row}
 use Rattle.split.specs.declared.point.Point.{Point}
 use Rattle.forest.specs.Element.{Element}
 use Rattle.forest.specs.Closed.{Closed}
-use Rattle.soundness.specs.Forest.{forestOf, elementOf}
+use Rattle.sound.specs.Forest.{forestOf, elementOf}
 use Rattle.run.specs.Ready.{Ready}
 use Rattle.run.specs.Skeleton.{Skeleton, rowIn, meshed}
 use Rattle.run.specs.Run.{Run, RunAll, done, passed, refined}

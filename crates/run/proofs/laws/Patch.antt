@@ -19,9 +19,9 @@ use Rattle.tables.specs.declared.record.Record.{Record}
 use Rattle.tables.specs.Layout.{noPoint, noRecord}
 use Rattle.tables.specs.Mesh.{Mesh}
 use Rattle.opening.specs.declared.answer.Found.the-variants.{At, Nowhere}
-use Rattle.soundness.specs.Sound.{vertices, rows, pointOf, recordOf, rowOf, Records, Grown, Conforming}
-use Rattle.soundness.proofs.laws.Leaves.{leaf-whole}
-use Rattle.soundness.proofs.laws.Placed.{placed, row-distinct}
+use Rattle.sound.specs.Sound.{vertices, rows, pointOf, recordOf, rowOf, Records, Grown, Conforming}
+use Rattle.sound.proofs.laws.Leaves.{leaf-whole}
+use Rattle.sound.proofs.laws.Placed.{placed, row-distinct}
 use Rattle.run.specs.Skeleton.{Skeleton, rowIn, meshed}
 use Rattle.run.specs.Ready.{Ready}
 use Rattle.run.specs.Run.{holders, blocking, cut, cutAll, recordFor, splitPatch}

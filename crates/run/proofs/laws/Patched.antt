@@ -11,7 +11,7 @@ use Rattle.split.specs.Split.{Side}
 use Rattle.split.specs.Row.{cornersOf, childOf}
 use Rattle.split.proofs.laws.Rows.{row-step}
 use Rattle.tables.specs.Mesh.{Mesh}
-use Rattle.soundness.specs.Sound.{rows, rowOf, place, Grown}
+use Rattle.sound.specs.Sound.{rows, rowOf, place, Grown}
 use Rattle.run.proofs.laws.Cuts.{Cuts, Either, born, before, next, either, cut-grown}
 use Rattle.run.proofs.laws.Grows.{Grows, grows-same, grows-on, cut-grows}
 

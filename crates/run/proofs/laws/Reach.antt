@@ -15,7 +15,7 @@ use Rattle.tables.specs.Mesh.{Mesh}
 use Rattle.forest.specs.Element.{Element}
 use Rattle.opening.specs.declared.answer.Found.the-variants.{At, Nowhere}
 use Rattle.opening.specs.Search.{count}
-use Rattle.soundness.specs.Forest.{largestIn, elementWithin, elementOf}
+use Rattle.sound.specs.Forest.{largestIn, elementWithin, elementOf}
 use Rattle.run.specs.Skeleton.{Skeleton, rowIn, meshed}
 use Rattle.run.specs.Ready.{Ready, Open, Reach, here, onward, edgeRank, rankIn}
 use Rattle.run.specs.Run.{blocking, Run}

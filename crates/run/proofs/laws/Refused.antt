@@ -11,7 +11,7 @@ use Rattle.forest.specs.Element.{Element}
 use Rattle.forest.specs.Closed.{Closed}
 use Rattle.forest.proofs.Forced.{forced-closed}
 use Rattle.opening.specs.declared.answer.Found.the-variants.{At, Nowhere}
-use Rattle.soundness.specs.Forest.{forestOf, elementOf}
+use Rattle.sound.specs.Forest.{forestOf, elementOf}
 use Rattle.run.specs.Ready.{Ready, Open}
 use Rattle.run.specs.Skeleton.{Skeleton, rowIn, meshed}
 use Rattle.run.specs.Run.{blocking, recordFor, splitPatch, Run, clear, Within, Over, Stuck, full, below, after, StuckAll, here, passed, refined}

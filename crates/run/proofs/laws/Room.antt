@@ -13,13 +13,13 @@ use Rattle.tables.specs.Mesh.{Mesh}
 use Rattle.forest.specs.Element.{Name, Element, middle, shape}
 use Rattle.opening.specs.Search.{count}
 use Rattle.opening.proofs.laws.Counting.{count-below}
-use Rattle.soundness.specs.Sound.{vertices, rows, rowOf, Grown}
-use Rattle.soundness.specs.Forest.{forestOf, nameOf, elementOf, SplitOf, splitsIn}
-use Rattle.soundness.proofs.laws.Count.{rows-count}
-use Rattle.soundness.proofs.laws.Elements.{one-row}
-use Rattle.soundness.proofs.laws.Names.{one-vertex}
-use Rattle.soundness.proofs.laws.Offspring.{split-midpoint}
-use Rattle.soundness.proofs.laws.Placed.{placed, middle-name}
+use Rattle.sound.specs.Sound.{vertices, rows, rowOf, Grown}
+use Rattle.sound.specs.Forest.{forestOf, nameOf, elementOf, SplitOf, splitsIn}
+use Rattle.sound.proofs.laws.Count.{rows-count}
+use Rattle.sound.proofs.laws.Elements.{one-row}
+use Rattle.sound.proofs.laws.Names.{one-vertex}
+use Rattle.sound.proofs.laws.Offspring.{split-midpoint}
+use Rattle.sound.proofs.laws.Placed.{placed, middle-name}
 use Rattle.run.specs.Ready.{Ready}
 use Rattle.run.specs.Skeleton.{Skeleton, meshed}
 use Rattle.run.specs.Run.{RunAll, Within, Over, vertices as over-vertices, rows as over-rows}

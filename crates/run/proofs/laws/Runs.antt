@@ -14,9 +14,9 @@ use Rattle.tables.specs.Mesh.{Mesh}
 use Rattle.forest.specs.Element.{Forest, Element, el, shape, HoldsEdge}
 use Rattle.forest.specs.Closed.{Present, Closed}
 use Rattle.opening.specs.declared.answer.Found.the-variants.{At, Nowhere}
-use Rattle.soundness.specs.Sound.{vertices, rows, rowOf, Grown}
-use Rattle.soundness.specs.Forest.{forestOf, colourIn, largestIn, elementOf, SplitOf}
-use Rattle.soundness.proofs.laws.Splits.{row-present}
+use Rattle.sound.specs.Sound.{vertices, rows, rowOf, Grown}
+use Rattle.sound.specs.Forest.{forestOf, colourIn, largestIn, elementOf, SplitOf}
+use Rattle.sound.proofs.laws.Splits.{row-present}
 use Rattle.run.specs.Skeleton.{Skeleton, rowIn, meshed}
 use Rattle.run.specs.Ready.{Ready, Open, edgeRank}
 use Rattle.run.specs.Run.{holders, blocking, recordFor, splitPatch, Run, clear, blocked}

@@ -10,7 +10,7 @@ use Rattle.opening.specs.Causes.{has as held}
 use Rattle.opening.specs.Colours.{taken, colours, largest}
 use Rattle.opening.specs.Order.{sorted, rootOf}
 use Rattle.opening.specs.Opening.{openedMesh}
-use Rattle.soundness.specs.Forest.{elementWithin}
+use Rattle.sound.specs.Forest.{elementWithin}
 use Rattle.run.specs.Run.{has, holding, holdersFrom, sameEnds, otherIn, cut, cutAll, splitPatch}
 use Rattle.run.specs.Compute.{refine, refineAll, refineCalls}
 use Rattle.run.specs.Worked.{worked, splitsBelow, computed, expected}

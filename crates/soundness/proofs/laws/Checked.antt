@@ -15,8 +15,10 @@ use Rattle.tables.specs.declared.record.Record.{Record}
 use Rattle.tables.specs.Layout.{noPoint, noRecord, noRow, pointAt, recordAt, rowAt}
 use Rattle.tables.specs.Mesh.{Mesh, meshOf}
 use Rattle.tables.proofs.laws.View.{length-up-to, up-to-at}
-use Rattle.soundness.specs.Sound.{vertices, rows, pointOf, recordOf, rowOf, Parted, Child, Parent, Midpoint, Grown, Conforming, Sound}
-use Rattle.soundness.specs.Check.{lent, Initials, Roots, Children, Parents, Ruled, Has, Single, middleAt, AllWhole, Clauses}
+use Rattle.sound.specs.Sound.{vertices, rows, pointOf, recordOf, rowOf, Parted, Child, Parent, Midpoint, Grown, Conforming, Sound}
+use Rattle.sound.specs.Check.{lent}
+use Rattle.shape.specs.Shape.{Initials, Roots, Children, Parents, middleAt}
+use Rattle.soundness.specs.Check.{Ruled, Has, Single, AllWhole, Clauses}
 
 -- ---- what the mesh of lent tables has at a number
 
@@ -231,6 +233,25 @@ module _ (p : List Float) (r w : List ℕ) (c : Counts) where
         let there = count-rows (made .there) in
         let older : rowAt w k .parent < k = rw (row-is p r w c k there) at (g .child k (made .past) (made .there) .older) in
         (k, made .past, there, sym (middle-is k there (omega arith)) ∙ made .is)
+
+module _ {p : List Float} {r w : List ℕ} {c : Counts} where
+  pub initials-of : (s : Sound (lent p r w) c) → Initials r (c .vertices) (s .initials)
+  initials-of s =
+      let d = s .grown .parted in
+      record {
+        within = rw (vertices-is p r w c) at (d .vertices-in);
+        before = λ v h. let l : v < c .vertices = omega (arith, h, rw (vertices-is p r w c) at (d .vertices-in)) in rw (record-is p r w c v l) at (d .initial v h);
+        ends = λ l e. d .midpoints (s .initials) (omega arith) (have-vertices p r w c l) (rw (record-is p r w c (s .initials) l) e);
+      }
+
+  pub roots-of : (s : Sound (lent p r w) c) → Roots w (c .rows) (s .roots)
+  roots-of s =
+      let d = s .grown .parted in
+      record {
+        within = rw (rows-is p r w c) at (d .rows-in);
+        before = λ k h. let l : k < c .rows = omega (arith, h, rw (rows-is p r w c) at (d .rows-in)) in rw (row-is p r w c k l) at (d .roots k h);
+        ends = λ l e. d .children (s .roots) (omega arith) (have-rows p r w c l) (rw (row-is p r w c (s .roots) l) e);
+      }
 
 module _ {p : List Float} {r w : List ℕ} {c : Counts} {i t : ℕ} where
   pub sound-of : Initials r (c .vertices) i → Roots w (c .rows) t → Clauses p r w c i t → AllWhole r w i (c .vertices) (c .rows) → Sound (lent p r w) c

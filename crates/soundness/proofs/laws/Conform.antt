@@ -10,8 +10,9 @@ use Rattle.split.specs.Split.{Corners, at, Holds}
 use Rattle.split.specs.Row.{cornersOf}
 use Rattle.split.proofs.laws.Places.{le-or-lt}
 use Rattle.tables.specs.Layout.{recordAt, rowAt}
-use Rattle.soundness.specs.Check.{Decides, Rising, Has, Untaken, Whole}
-use Rattle.soundness.proofs.laws.Deciding.{decides-true, decides-false, decides-same}
+use Rattle.sound.specs.Check.{Decides}
+use Rattle.soundness.specs.Check.{Rising, Has, Untaken, Whole}
+use Rattle.sound.proofs.laws.Deciding.{decides-true, decides-false, decides-same}
 
 -- x and y are the parents of no midpoint, in either order
 abbrev pub Unpaired : List ℕ → ℕ → ℕ → ℕ → ℕ → Type 0

@@ -12,8 +12,9 @@ use Rattle.chain.proofs.laws.Index.{indexed-none, indexed-push-one}
 use Rattle.chain.proofs.laws.Pushed.{pushed-length}
 use Rattle.tables.specs.declared.record.Record.{Record}
 use Rattle.tables.specs.Layout.{recordAt}
-use Rattle.soundness.specs.Check.{Decides, Run, keyOf, pairAt, Has, Untaken, Single, AllSingle, Fresh, Entered}
-use Rattle.soundness.proofs.laws.Deciding.{decides-true, decides-false, decides-same, refused, granted, Swept, swept-none, swept-on, swept-all, swept-failed}
+use Rattle.sound.specs.Check.{Decides}
+use Rattle.soundness.specs.Check.{Run, keyOf, pairAt, Has, Untaken, Single, AllSingle, Fresh, Entered}
+use Rattle.sound.proofs.laws.Deciding.{decides-true, decides-false, decides-same, refused, granted, Swept, swept-none, swept-on, swept-all, swept-failed}
 use Rattle.soundness.proofs.laws.Chains.{Walked, walked-on}
 
 pub key-low : (a b : ℕ) → keyOf a b < 20000

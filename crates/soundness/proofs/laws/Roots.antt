@@ -21,11 +21,11 @@ use Rattle.opening.specs.Order.{rootOf}
 use Rattle.opening.specs.Opening.{judged, initial, openedMesh}
 use Rattle.opening.specs.Agree.{paint, agreed}
 use Rattle.opening.proofs.laws.Agree.{ButChild, root-same, same-root, agreed-means, means-agreed}
-use Rattle.soundness.specs.Sound.{childless, vertexCells, givenPoints, givenElements, Afresh, Fitting}
-use Rattle.soundness.specs.Check.{Decides, lent}
-use Rattle.soundness.proofs.laws.Flat.{up-to-same, up-to-front, up-to-map, up-to-each}
-use Rattle.soundness.proofs.laws.Deciding.{decides-same}
-use Rattle.soundness.proofs.laws.Fitted.{fitting-points, fitting-inside}
+use Rattle.sound.specs.Sound.{childless, vertexCells, givenPoints, givenElements, Afresh, Fitting}
+use Rattle.sound.specs.Check.{Decides, lent}
+use Rattle.sound.proofs.laws.Flat.{up-to-same, up-to-front, up-to-map, up-to-each}
+use Rattle.sound.proofs.laws.Deciding.{decides-same}
+use Rattle.shape.proofs.laws.Fitted.{fitting-points, fitting-inside}
 
 -- ---- gathering
 

@@ -15,8 +15,8 @@ use Rattle.opening.specs.declared.answer.Opened.{Opened}
 use Rattle.opening.specs.declared.answer.Opened.the-variants as opened
 use Rattle.opening.specs.Opening.{answer, tables, judged, openedMesh, Opens}
 use Rattle.closure.proofs.laws.Promise.{one-outcome}
-use Rattle.soundness.specs.Sound.{Sound}
-use Rattle.soundness.proofs.laws.Opened.{opened-sound}
+use Rattle.sound.specs.Sound.{Sound}
+use Rattle.sound.proofs.laws.Opened.{opened-sound}
 use Rattle.text.specs.declared.input.Used.{Used}
 use Rattle.text.specs.declared.input.Read.{Read}
 use Rattle.text.specs.declared.input.Read.the-variants as read

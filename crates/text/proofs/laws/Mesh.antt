@@ -14,8 +14,8 @@ use Rattle.tables.specs.Mesh.{Lent, meshOf, padded}
 use Rattle.tables.specs.Report.{done, refusal}
 use Rattle.opening.specs.Search.{count}
 use Rattle.opening.proofs.laws.Counting.{count-below}
-use Rattle.soundness.specs.Sound.{Sound}
-use Rattle.soundness.specs.Check.{lent}
+use Rattle.sound.specs.Sound.{Sound}
+use Rattle.sound.specs.Check.{lent}
 use Rattle.closure.specs.declared.answer.Refined.{Refined}
 use Rattle.closure.specs.declared.answer.Refined.the-variants as refined
 use Rattle.closure.specs.Refine.{Refines}

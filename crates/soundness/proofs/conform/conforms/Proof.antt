@@ -2,7 +2,7 @@
 use Prim.Native.Nat.{_-_}
 use borrow.Author.Needs.{needs}
 use Rattle.soundness.specs.Check.{Whole}
-use Rattle.soundness.proofs.laws.Deciding.{all-places, refused, granted, Swept, swept-none, swept-on, swept-all, swept-failed}
+use Rattle.sound.proofs.laws.Deciding.{all-places, refused, granted, Swept, swept-none, swept-on, swept-all, swept-failed}
 use Rattle.soundness.proofs.conform.conforms.Statement.{statement}
 use Rattle.soundness.proofs.conform.conforms.Tie as tie
 

@@ -1,7 +1,7 @@
 -- `soundness::conform::is_whole` meets its contract: a case for each pair. Assumes nothing.
 use native.Mathlib.Omega.{arith}
 use borrow.Author.Needs.{needs}
-use Rattle.soundness.proofs.laws.Deciding.{refused, granted}
+use Rattle.sound.proofs.laws.Deciding.{refused, granted}
 use Rattle.soundness.proofs.laws.Conform.{whole-split, whole-fails, whole-last}
 use Rattle.soundness.proofs.conform.is_whole.Statement.{statement}
 use Rattle.soundness.proofs.conform.is_whole.Tie as tie

@@ -1,7 +1,7 @@
 use borrow.Author.Needs.{needs}
 use Prim.Native.Nat.{_-_}
 use Rattle.soundness.specs.Check.{Ruled}
-use Rattle.soundness.proofs.laws.Deciding.{Swept, swept-none, swept-on, swept-all, swept-failed, refused, granted}
+use Rattle.sound.proofs.laws.Deciding.{Swept, swept-none, swept-on, swept-all, swept-failed, refused, granted}
 use Rattle.soundness.proofs.midpoints.midpoints_follow.Statement.{statement}
 use Rattle.soundness.proofs.midpoints.midpoints_follow.Tie as tie
 

@@ -1,6 +1,6 @@
 use mathlib.Core.Path.{ap}
 use Rattle.split.specs.declared.point.Point.{Point}
-use Rattle.soundness.proofs.laws.Deciding.{decides-false, refused, granted}
+use Rattle.sound.proofs.laws.Deciding.{decides-false, refused, granted}
 use Rattle.soundness.proofs.laws.Midpoints.{same-coordinates}
 use borrow.Author.Needs.{needs}
 use Rattle.soundness.proofs.midpoints.same_point.Statement.{statement}

@@ -1,7 +1,7 @@
 -- `soundness::pairs::has` meets its contract. Assumes nothing.
 use mathlib.Core.Path.{refl}
 use borrow.Author.Needs.{needs}
-use Rattle.soundness.proofs.laws.Deciding.{decides-equal}
+use Rattle.sound.proofs.laws.Deciding.{decides-equal}
 use Rattle.soundness.proofs.laws.Pairs.{has-seen, has-not}
 use Rattle.soundness.proofs.pairs.has.Statement.{statement}
 use Rattle.soundness.proofs.pairs.has.Tie as tie

@@ -1,5 +1,5 @@
 -- `soundness::roots::afresh_large` meets its contract. Assumes nothing.
-use Rattle.opening.proofs.laws.Judging.{zeros-count}
+use Rattle.opening.proofs.laws.Indexing.{zeros-count}
 use Rattle.soundness.proofs.laws.Roots.{elements-few, zeros-room}
 use Rattle.soundness.proofs.roots.afresh_large.Statement.{statement}
 use Rattle.soundness.proofs.roots.afresh_large.Tie as tie

@@ -1,6 +1,6 @@
 -- `soundness::roots::afresh_small` meets its contract. Assumes nothing.
 use native.Mathlib.Omega.{arith}
-use Rattle.opening.proofs.laws.Judging.{zeros-count}
+use Rattle.opening.proofs.laws.Indexing.{zeros-count}
 use Rattle.soundness.proofs.laws.Roots.{zeros-room}
 use Rattle.soundness.proofs.roots.afresh_small.Statement.{statement}
 use Rattle.soundness.proofs.roots.afresh_small.Tie as tie

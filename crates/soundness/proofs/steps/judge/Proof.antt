@@ -1,20 +1,37 @@
-use Rattle.soundness.proofs.laws.Deciding.{decides-false, refused, granted}
-use Rattle.soundness.proofs.laws.Steps.{half-of, sound-decided}
+use Rattle.soundness.proofs.laws.Steps.{judging}
 use borrow.Author.Needs.{needs}
 use Rattle.soundness.proofs.steps.judge.Statement.{statement}
 use Rattle.soundness.proofs.steps.judge.Tie as tie
 
-half-requires : tie.Need-half-requires
-half-requires c κs = search needs
+afresh-requires : tie.Need-afresh-requires
+afresh-requires c κs = search needs
 
 returns : tie.Need-returns
-returns c = decides-false (λ s. refused (c .before .half .ensures) (c .if1 .taken) (half-of (c .before .before .before .before .before .pre) s))
-
-rest-requires : tie.Need-rest-requires
-rest-requires c κs = search needs
+returns c = search (judging, needs)
 
 returns-2 : tie.Need-returns-2
-returns-2 c = sound-decided (c .before .before .before .before .before .before .pre) (granted (c .before .before .half .ensures) (c .before .if1 .left)) (c .rest .ensures)
+returns-2 c = search (judging, needs)
+
+midpoints-follow-requires : tie.Need-midpoints-follow-requires
+midpoints-follow-requires c κs = search needs
+
+returns-3 : tie.Need-returns-3
+returns-3 c = search (judging, needs)
+
+pairs-fit-requires : tie.Need-pairs-fit-requires
+pairs-fit-requires c κs = search (judging, needs)
+
+returns-4 : tie.Need-returns-4
+returns-4 c = search (judging, needs)
 
 pub judge-spec : {M : Type 1} → statement M
-judge-spec = tie.close (tie.spec half-requires returns rest-requires returns-2)
+judge-spec =
+    tie.close
+    (tie.spec
+    afresh-requires
+    returns
+    returns-2
+    midpoints-follow-requires
+    returns-3
+    pairs-fit-requires
+    returns-4)

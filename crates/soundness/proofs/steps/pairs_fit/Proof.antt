@@ -1,4 +1,4 @@
-use Rattle.opening.proofs.laws.Judging.{zeros-count}
+use Rattle.opening.proofs.laws.Indexing.{zeros-count}
 use Rattle.soundness.proofs.laws.Steps.{zeros-fresh}
 use native.Mathlib.Omega.{arith}
 use Rattle.soundness.proofs.steps.pairs_fit.Statement.{statement}

@@ -1,4 +1,4 @@
-use Rattle.soundness.proofs.laws.Deciding.{decides-false, decides-same, refused, granted}
+use Rattle.sound.proofs.laws.Deciding.{decides-false, decides-same, refused, granted}
 use Rattle.soundness.proofs.laws.Pairs.{entered-index}
 use borrow.Author.Needs.{needs}
 use Rattle.soundness.proofs.steps.pairs_in.Statement.{statement}

@@ -1,0 +1,15 @@
+use Rattle.split.proofs.laws.Tags.{tag-one, tag-two, tag-three}
+use Rattle.shape.proofs.family.vertex_at.Statement.{statement}
+use Rattle.shape.proofs.family.vertex_at.Tie as tie
+
+returns : tie.Need-returns
+returns c = rw (tag-one (c .if1 .taken))
+
+returns-2 : tie.Need-returns-2
+returns-2 c = rw (tag-two (c .if2 .taken))
+
+returns-3 : tie.Need-returns-3
+returns-3 c = rw (tag-three (c .before .if1 .left) (c .if2 .left))
+
+pub vertex-at-spec : {M : Type 1} → statement M
+vertex-at-spec = tie.close (tie.spec returns returns-2 returns-3)
