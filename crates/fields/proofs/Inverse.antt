@@ -38,11 +38,11 @@ module _ (d : ℕ) where
       go : (t : Bool) → ltb d 10 ≡ t → worthOf (glyph d) ≡ d
       go true e =
           let k = ltb-true d 10 e in
-          let w = worth-decimal (48 + d) (omega arith) (omega arith) refl in
+          let w = worth-decimal (48 + d) (omega arith) (omega arith) in
           rw (glyph-low k) (omega (arith, w))
       go false e =
           let k = ltb-false d 10 e in
-          let w = worth-letter (87 + d) (omega arith) (omega arith) (omega arith) (omega arith) refl in
+          let w = worth-letter (87 + d) (omega arith) (omega arith) (omega arith) (omega arith) in
           rw (glyph-high k) (omega (arith, w))
 
 glyph-worth : (x : ℕ) → worthOf x < 16 → x ≡ glyph (worthOf x)
@@ -50,7 +50,7 @@ glyph-worth x h = first (ltb x 48) refl
   where
     fourth : 48 ≤ x → 58 ≤ x → 97 ≤ x → (t : Bool) → ltb x 103 ≡ t → x ≡ glyph (worthOf x)
     fourth a b c true e =
-        let w = worth-letter x a b c (ltb-true x 103 e) refl in
+        let w = worth-letter x a b c (ltb-true x 103 e) in
         let g = glyph-high (worthOf x) (omega (arith, w)) in
         omega (arith, g, w)
     fourth a b c false e = let w = worth-above x a b c (ltb-false x 103 e) in absurd (omega (arith, w))
@@ -62,7 +62,7 @@ glyph-worth x h = first (ltb x 48) refl
     second : 48 ≤ x → (t : Bool) → ltb x 58 ≡ t → x ≡ glyph (worthOf x)
     second a true e =
         let k = ltb-true x 58 e in
-        let w = worth-decimal x a k refl in
+        let w = worth-decimal x a k in
         let g = glyph-low (worthOf x) (omega (arith, w)) in
         omega (arith, g, w)
     second a false e = third a (ltb-false x 58 e) (ltb x 97) refl

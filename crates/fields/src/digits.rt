@@ -11,12 +11,6 @@ pub enum Value {
     Not,
 }
 
-fn wide(x: u8) -> u64
-    ensures { λ r. ⌜ r ≡ x ⌝ }
-{
-    x as u64
-}
-
 // What a byte is worth as a digit; 16 where it is none.
 fn worth(x: u8) -> u64
     ensures { λ r. ⌜ r ≡ worthOf x ⌝ }
@@ -25,13 +19,13 @@ fn worth(x: u8) -> u64
         return 16;
     }
     if x < 58 {
-        return wide(x) - 48;
+        return x as u64 - 48;
     }
     if x < 97 {
         return 16;
     }
     if x < 103 {
-        return wide(x) - 87;
+        return x as u64 - 87;
     }
     16
 }

@@ -137,6 +137,18 @@ module _ (l : List ℕ) (n : ℕ) (e : numberOf l ≡ Is n) where
 pub number-small : (l : List ℕ) {v : Value} → v ≡ numberOf l → Small v
 number-small l q = record { low = λ n e. number-low l n (sym q ∙ e) }
 
+-- ---- the record of a line's fields
+
+module _ (l : List ℕ) (p : ℕ) {v : Line} where
+  pub vertex-fields : {x y z : Value} → v ≡ vertexOf x y z p → {f g h : List ℕ} → x ≡ hexOf f → f ≡ fieldOf l 1 → y ≡ hexOf g → g ≡ fieldOf l 2 → z ≡ hexOf h → h ≡ fieldOf l 3 → v ≡ vertexOf (hexOf (fieldOf l 1)) (hexOf (fieldOf l 2)) (hexOf (fieldOf l 3)) p
+  vertex-fields e ex ef ey eg ez eh = e ∙ rw (ex, ef, ey, eg, ez, eh)
+
+  pub element-fields : {a b c d : Value} → v ≡ elementOf a b c d p → {f g h i : List ℕ} → a ≡ numberOf f → f ≡ fieldOf l 1 → b ≡ numberOf g → g ≡ fieldOf l 2 → c ≡ numberOf h → h ≡ fieldOf l 3 → d ≡ numberOf i → i ≡ fieldOf l 4 → v ≡ elementOf (numberOf (fieldOf l 1)) (numberOf (fieldOf l 2)) (numberOf (fieldOf l 3)) (numberOf (fieldOf l 4)) p
+  element-fields e ea ef eb eg ec eh ed ei = e ∙ rw (ea, ef, eb, eg, ec, eh, ed, ei)
+
+  pub mark-field : {a : Value} → v ≡ markOf a p → {f : List ℕ} → a ≡ numberOf f → f ≡ fieldOf l 1 → v ≡ markOf (numberOf (fieldOf l 1)) p
+  mark-field e ea ef = e ∙ rw (ea, ef)
+
 -- ---- the line
 
 module _ (l : List ℕ) (p : ℕ) {s : Bool} (es : s ≡ shapedAs l 86 3) where

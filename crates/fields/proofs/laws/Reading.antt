@@ -26,9 +26,9 @@ unfolding worthOf
 worth-below x h = rw (lt-ltb x 48 h)
 
 module _ (x : ℕ) (a : 48 ≤ x) where
-  pub worth-decimal : x < 58 → {w : ℕ} → w ≡ x → w - 48 ≡ worthOf x
+  pub worth-decimal : x < 58 → x - 48 ≡ worthOf x
   unfolding worthOf
-  worth-decimal h e = rw (le-ltb x 48 a, lt-ltb x 58 h, e)
+  worth-decimal h = rw (le-ltb x 48 a, lt-ltb x 58 h)
 
   module _ (b : 58 ≤ x) where
     pub worth-between : x < 97 → 16 ≡ worthOf x
@@ -36,9 +36,9 @@ module _ (x : ℕ) (a : 48 ≤ x) where
     worth-between h = rw (le-ltb x 48 a, le-ltb x 58 b, lt-ltb x 97 h)
 
     module _ (c : 97 ≤ x) where
-      pub worth-letter : x < 103 → {w : ℕ} → w ≡ x → w - 87 ≡ worthOf x
+      pub worth-letter : x < 103 → x - 87 ≡ worthOf x
       unfolding worthOf
-      worth-letter h e = rw (le-ltb x 48 a, le-ltb x 58 b, le-ltb x 97 c, lt-ltb x 103 h, e)
+      worth-letter h = rw (le-ltb x 48 a, le-ltb x 58 b, le-ltb x 97 c, lt-ltb x 103 h)
 
       pub worth-above : 103 ≤ x → 16 ≡ worthOf x
       unfolding worthOf

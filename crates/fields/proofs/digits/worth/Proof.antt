@@ -6,9 +6,6 @@ use Rattle.fields.proofs.digits.worth.Tie as tie
 returns : tie.Need-returns
 returns c = search (worths, needs)
 
-wide-requires : tie.Need-wide-requires
-wide-requires c κs = search needs
-
 sub-result : tie.Need-sub-result
 sub-result c = search needs
 
@@ -17,9 +14,6 @@ returns-2 c = search (worths, needs)
 
 returns-3 : tie.Need-returns-3
 returns-3 c = search (worths, needs)
-
-wide-requires-2 : tie.Need-wide-requires-2
-wide-requires-2 c κs = search needs
 
 sub-result-2 : tie.Need-sub-result-2
 sub-result-2 c = search needs
@@ -35,11 +29,9 @@ worth-spec =
     tie.close
     (tie.spec
     returns
-    wide-requires
     sub-result
     returns-2
     returns-3
-    wide-requires-2
     sub-result-2
     returns-4
     returns-5)

@@ -1,5 +1,5 @@
 use borrow.Author.Needs.{needs}
-use Rattle.fields.proofs.laws.Lines.{number-small}
+use Rattle.fields.proofs.laws.Lines.{number-small, element-fields}
 use Rattle.fields.proofs.line.read_element.Statement.{statement}
 use Rattle.fields.proofs.line.read_element.Tie as tie
 
@@ -31,7 +31,7 @@ element-requires : tie.Need-element-requires
 element-requires c κs = search (number-small, needs)
 
 returns : tie.Need-returns
-returns c = cc
+returns c = search (element-fields, needs)
 
 pub read-element-spec : {M : Type 1} → statement M
 read-element-spec =

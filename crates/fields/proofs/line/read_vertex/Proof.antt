@@ -1,4 +1,5 @@
 use borrow.Author.Needs.{needs}
+use Rattle.fields.proofs.laws.Lines.{vertex-fields}
 use Rattle.fields.proofs.line.read_vertex.Statement.{statement}
 use Rattle.fields.proofs.line.read_vertex.Tie as tie
 
@@ -24,7 +25,7 @@ vertex-requires : tie.Need-vertex-requires
 vertex-requires c κs = search needs
 
 returns : tie.Need-returns
-returns c = cc
+returns c = search (vertex-fields, needs)
 
 pub read-vertex-spec : {M : Type 1} → statement M
 read-vertex-spec =
