@@ -27,9 +27,13 @@ pub record Run (i n : ℕ) : Type 0 where
   pub order : i ≤ n
   pub few : n ≤ 20000
 
--- the key of a pair: 19997 is prime, so that pairs with one vertex in common have different keys, all but few
+-- the keys of the index; its links come after as many heads
+abbrev pub heads : ℕ
+heads = 80000
+
+-- the key of a pair: 79999 is prime and above every vertex, so that pairs with the same smaller vertex, or the same larger one, have different keys
 unfoldable pub keyOf : ℕ → ℕ → ℕ
-keyOf a b = (a * 7919 + b) % 19997
+keyOf a b = (a * 7919 + b) % 79999
 
 -- the key at place s of the index, that of vertex i + s
 abbrev pub pairAt : List ℕ → ℕ → ℕ → ℕ
@@ -53,13 +57,18 @@ AllSingle r i n = (v : ℕ) → i ≤ v → v < n → Single r i v
 
 -- a scratch table with room for an index of 20,000 places, and no head set
 pub record Fresh (scratch : List ℕ) : Type 0 where
-  pub size : 40000 ≤ length scratch
-  pub clear : (v : ℕ) → v < 20000 → getD scratch v 0 ≡ 0
+  pub size : 100000 ≤ length scratch
+  pub clear : (v : ℕ) → v < heads → getD scratch v 0 ≡ 0
+
+-- the first n numbers of a table are zero
+pub record Zeroed (n whole : ℕ) (scratch : List ℕ) : Type 0 where
+  pub size : length scratch ≡ whole
+  pub zero : (v : ℕ) → v < n → getD scratch v 0 ≡ 0
 
 -- the answer b: no pair stands twice, and then all are in the index
 pub record Entered (r : List ℕ) (i n : ℕ) (b : Bool) (scratch : List ℕ) : Type 0 where
   pub decides : Decides (AllSingle r i n) b
-  pub index : b ≡ true → Indexed (pairAt r i) (n - i) 20000 scratch
+  pub index : b ≡ true → Indexed (pairAt r i) (n - i) heads scratch
 
 -- the parents of each midpoint stand in order
 pub record Rising (r : List ℕ) (i n : ℕ) : Type 0 where
@@ -84,6 +93,11 @@ pub record Clauses (p : List Float) (r w : List ℕ) (c : Counts) (i t : ℕ) : 
   pub ruled : (v : ℕ) → i ≤ v → v < c .vertices → Ruled p r v
   pub single : AllSingle r i (c .vertices)
   pub used : (v : ℕ) → i ≤ v → v < c .vertices → (k : ℕ) × (t ≤ k) × (k < c .rows) × (middleAt w k ≡ v)
+
+-- a scratch table all zero
+pub record Cleared (n : ℕ) (scratch : List ℕ) : Type 0 where
+  pub size : length scratch ≡ n
+  pub zero : (v : ℕ) → getD scratch v 0 ≡ 0
 
 -- clause 6
 abbrev pub AllRuled : List Float → List ℕ → Counts → ℕ → Type 0

@@ -3,12 +3,12 @@ use crate::pairs::untaken;
 ghost use Prim.Native.Nat.{_-_, min, max};
 ghost use Rattle.chain.specs.Chain.{Indexed};
 ghost use Rattle.sound.specs.Check.{Decides};
-ghost use Rattle.soundness.specs.Check.{Run, Rising, pairAt, Untaken, Whole, AllWhole};
+ghost use Rattle.soundness.specs.Check.{Run, Rising, heads, pairAt, Untaken, Whole, AllWhole};
 
 // Whether a and b are the parents of no midpoint, in either order.
 fn unpaired(records: &[u32], scratch: &[u32], i: usize, n: usize, a: u32, b: u32) -> bool
     requires { ⌜ Run i n ⌝ }
-    requires { ⌜ Indexed (pairAt (now records) i) (n - i) 20000 (now scratch) ⌝ }
+    requires { ⌜ Indexed (pairAt (now records) i) (n - i) heads (now scratch) ⌝ }
     ensures { λ r. ⌜ Decides (Untaken (now (records .entry)) i n (min a b) (max a b)) r ⌝ }
 {
     if a < b {
@@ -20,7 +20,7 @@ fn unpaired(records: &[u32], scratch: &[u32], i: usize, n: usize, a: u32, b: u32
 // Whether row q, if it is a leaf, holds both parents of no midpoint: six pairs.
 fn is_whole(records: &[u32], rows: &[u32], scratch: &[u32], i: usize, n: usize, q: usize) -> bool
     requires { ⌜ Run i n ⌝ }
-    requires { ⌜ Indexed (pairAt (now records) i) (n - i) 20000 (now scratch) ⌝ }
+    requires { ⌜ Indexed (pairAt (now records) i) (n - i) heads (now scratch) ⌝ }
     requires { ⌜ Rising (now records) i n ⌝ }
     ensures { λ r. ⌜ Decides (Whole (now (records .entry)) (now (rows .entry)) i n q) r ⌝ }
 {
@@ -55,7 +55,7 @@ pub fn conforms(
     count: usize,
 ) -> bool
     requires { ⌜ Run i n ⌝ }
-    requires { ⌜ Indexed (pairAt (now records) i) (n - i) 20000 (now scratch) ⌝ }
+    requires { ⌜ Indexed (pairAt (now records) i) (n - i) heads (now scratch) ⌝ }
     requires { ⌜ Rising (now records) i n ⌝ }
     ensures { λ r. ⌜ Decides (AllWhole (now (records .entry)) (now (rows .entry)) i n count) r ⌝ }
 {

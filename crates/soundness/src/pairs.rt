@@ -1,17 +1,20 @@
 // The pairs of parents, indexed by a key made of both: no pair stands twice (clause 6), and whether two vertices are a pair (clause 7). A vertex with very many others costs no more than any, since each of its pairs has a key of its own.
 use chain::wide;
 ghost use mathlib.Core.Path.{_≡_};
-ghost use Prim.Native.Nat.{_-_, _<_};
+ghost use Prim.Native.Nat.{_-_, _≤_, _<_};
 ghost use lib.ListN.{length};
 ghost use Rattle.chain.specs.Chain.{Indexed};
 ghost use Rattle.sound.specs.Check.{Decides};
-ghost use Rattle.soundness.specs.Check.{Fresh, Run, keyOf, pairAt, Has, Untaken, Entered};
+ghost use Rattle.soundness.specs.Check.{Zeroed, Fresh, Run, heads, keyOf, pairAt, Has, Untaken, Entered};
+
+// Four for each vertex that there can be, so that the chains are short.
+pub const HEADS: usize = 80000;
 
 fn key(a: u32, b: u32) -> usize
     ensures { λ k. ⌜ k ≡ keyOf a b ⌝ }
-    ensures { λ k. ⌜ k < 20000 ⌝ }
+    ensures { λ k. ⌜ k < heads ⌝ }
 {
-    (wide(a) * 7919 + wide(b)) % 19997
+    (wide(a) * 7919 + wide(b)) % 79999
 }
 
 // Whether vertex v has the parents a and b.
@@ -28,7 +31,7 @@ fn has(records: &[u32], v: usize, a: u32, b: u32) -> bool
 // Whether no vertex from i on, below n, has the parents a and b; the index has the pairs of all of these.
 pub fn untaken(records: &[u32], scratch: &[u32], i: usize, n: usize, a: u32, b: u32) -> bool
     requires { ⌜ Run i n ⌝ }
-    requires { ⌜ Indexed (pairAt (now records) i) (n - i) 20000 (now scratch) ⌝ }
+    requires { ⌜ Indexed (pairAt (now records) i) (n - i) heads (now scratch) ⌝ }
     ensures { λ r. ⌜ Decides (Untaken (now (records .entry)) i n a b) r ⌝ }
 {
     let mut x = wide(scratch[key(a, b)]);
@@ -37,9 +40,21 @@ pub fn untaken(records: &[u32], scratch: &[u32], i: usize, n: usize, a: u32, b: 
         if has(records, i + s, a, b) {
             return false;
         }
-        x = wide(scratch[20000 + s]);
+        x = wide(scratch[HEADS + s]);
     }
     true
+}
+
+// Sets the first n numbers to zero.
+pub fn clear(scratch: &mut [u32], n: usize)
+    requires { ⌜ n ≤ length (now scratch) ⌝ }
+    ensures { λ _. ⌜ Zeroed n (length (now (scratch .entry))) (now (scratch .exit)) ⌝ }
+{
+    let mut i = 0usize;
+    while i < n {
+        scratch[i] = 0;
+        i += 1;
+    }
 }
 
 // Enters the pairs of the vertices from i on, below n, up to the first pair that is there already.
@@ -54,7 +69,7 @@ pub fn enter(records: &[u32], i: usize, n: usize, scratch: &mut [u32]) -> bool
         if !untaken(records, scratch, i, v, held.first, held.second) {
             return false;
         }
-        chain::push(scratch, 20000, v - i, key(held.first, held.second));
+        chain::push(scratch, HEADS, v - i, key(held.first, held.second));
         v += 1;
     }
     true

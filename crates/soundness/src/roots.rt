@@ -34,8 +34,7 @@ pub fn gather(rows: &[u32], t: usize, elements: &mut [u32])
     }
 }
 
-// The same in a table for the roots' vertices that the caller lends.
-fn afresh_in(
+pub fn afresh(
     points: &[f64],
     records: &[u32],
     rows: &[u32],
@@ -46,56 +45,11 @@ fn afresh_in(
 ) -> bool
     requires { ⌜ Fitting (lent (now points) (now records) (now rows)) c ⌝ }
     requires { ⌜ (i ≤ c .vertices) × (t ≤ c .rows) ⌝ }
-    requires { ⌜ 4 * t ≤ length (now elements) ⌝ }
+    requires { ⌜ 400000 ≤ length (now elements) ⌝ }
     ensures { λ r. ⌜ Decides (Afresh (meshOf (lent (now (points .entry)) (now (records .entry)) (now (rows .entry))) c) i t) r ⌝ }
 {
     gather(rows, t, elements);
     let last = 3 * i;
     let end = 4 * t;
     opening::agree::agrees(&points[0..last], &elements[0..end], records, rows)
-}
-
-// With few roots a small table will do.
-fn afresh_small(
-    points: &[f64],
-    records: &[u32],
-    rows: &[u32],
-    c: Counts,
-    i: usize,
-    t: usize,
-) -> bool
-    requires { ⌜ Fitting (lent (now points) (now records) (now rows)) c ⌝ }
-    requires { ⌜ (i ≤ c .vertices) × (t ≤ c .rows) ⌝ }
-    requires { ⌜ t ≤ 10000 ⌝ }
-    ensures { λ r. ⌜ Decides (Afresh (meshOf (lent (now (points .entry)) (now (records .entry)) (now (rows .entry))) c) i t) r ⌝ }
-{
-    let mut elements = [0u32; 40000];
-    afresh_in(points, records, rows, c, i, t, &mut elements)
-}
-
-fn afresh_large(
-    points: &[f64],
-    records: &[u32],
-    rows: &[u32],
-    c: Counts,
-    i: usize,
-    t: usize,
-) -> bool
-    requires { ⌜ Fitting (lent (now points) (now records) (now rows)) c ⌝ }
-    requires { ⌜ (i ≤ c .vertices) × (t ≤ c .rows) ⌝ }
-    ensures { λ r. ⌜ Decides (Afresh (meshOf (lent (now (points .entry)) (now (records .entry)) (now (rows .entry))) c) i t) r ⌝ }
-{
-    let mut elements = [0u32; 400000];
-    afresh_in(points, records, rows, c, i, t, &mut elements)
-}
-
-pub fn afresh(points: &[f64], records: &[u32], rows: &[u32], c: Counts, i: usize, t: usize) -> bool
-    requires { ⌜ Fitting (lent (now points) (now records) (now rows)) c ⌝ }
-    requires { ⌜ (i ≤ c .vertices) × (t ≤ c .rows) ⌝ }
-    ensures { λ r. ⌜ Decides (Afresh (meshOf (lent (now (points .entry)) (now (records .entry)) (now (rows .entry))) c) i t) r ⌝ }
-{
-    if t <= 10000 {
-        return afresh_small(points, records, rows, c, i, t);
-    }
-    afresh_large(points, records, rows, c, i, t)
 }

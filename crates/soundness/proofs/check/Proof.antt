@@ -1,25 +1,16 @@
-use borrow.Author.Needs.{needs}
-use Rattle.soundness.proofs.laws.Steps.{shapes}
+use native.Mathlib.Nat.{le-of-eq}
+use Rattle.opening.proofs.laws.Indexing.{zeros-count}
 use Rattle.soundness.proofs.check.Statement.{statement}
 use Rattle.soundness.proofs.check.Tie as tie
 
-shaped-requires : tie.Need-shaped-requires
-shaped-requires c κs = search needs
+slice-aggregate-decide : tie.Need-slice-aggregate-decide
+slice-aggregate-decide c = zeros-count 400000
 
-enum-known-found : tie.Need-enum-known-found
-enum-known-found c = search needs
-
-judge-requires : tie.Need-judge-requires
-judge-requires c κs = search (shapes, needs)
+decide-requires : tie.Need-decide-requires
+decide-requires c κs = le-of-eq (zeros-count 400000)
 
 returns : tie.Need-returns
-returns c = search needs
-
-enum-told : tie.Need-enum-told
-enum-told c = search needs
-
-returns-2 : tie.Need-returns-2
-returns-2 c = search (shapes, needs)
+returns c = c .before .decide .ensures
 
 pub check-spec : {M : Type 1} → statement M
-check-spec = tie.close (tie.spec shaped-requires enum-known-found judge-requires returns enum-told returns-2)
+check-spec = tie.close (tie.spec slice-aggregate-decide decide-requires returns)

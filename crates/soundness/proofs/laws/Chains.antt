@@ -25,10 +25,10 @@ module _ {key : ℕ → ℕ} {P : ℕ → Type 0} {m k : ℕ} where
       go s l b g (no u) = behind s (omega arith) b g
 
   -- from the head of k
-  pub walked-head : {i j : ℕ} {scratch : List ℕ} → Indexed key m 20000 scratch → k < 20000 → j ≡ k → i ≡ getD scratch j 0 → Walked key P m k i
+  pub walked-head : {i j base : ℕ} {scratch : List ℕ} → Indexed key m base scratch → k < base → j ≡ k → i ≡ getD scratch j 0 → Walked key P m k i
   walked-head {i} {scratch = scratch} x h q e = walked-to m i (omega arith) (e ∙ ap (λ (j : ℕ). getD scratch j 0) q ∙ x .heads k h) (λ s l b g. absurd (omega arith))
 
-  module _ {scratch : List ℕ} (x : Indexed key m 20000 scratch) {i next : ℕ} (w : Walked key P m k i) (more : 0 < i) (e : next ≡ getD scratch (20000 + (i - 1)) 0) where
+  module _ {base : ℕ} {scratch : List ℕ} (x : Indexed key m base scratch) {i next : ℕ} (w : Walked key P m k i) (more : 0 < i) (e : next ≡ getD scratch (base + (i - 1)) 0) where
     link : next ≡ latest key k (i - 1)
     link = e ∙ next-link x (omega (arith, w .below)) (w .here more)
 

@@ -5,25 +5,34 @@ use mathlib.Core.List.{List}
 use Prim.Native.Nat.{ℕ, _+_, _*_, _%_, _-_, _≤_, _<_}
 use native.Mathlib.Nat.{add-sub-of-le}
 use native.Mathlib.Omega.{arith}
-use lib.ListN.{length, getD}
+use lib.ListN.{length, getD, getD-replicate}
+use lib.Seq.{getD-take}
 use borrow.Author.Tests.{not-false}
 use Rattle.chain.specs.Chain.{Indexed, pushed}
 use Rattle.chain.proofs.laws.Index.{indexed-none, indexed-push-one}
 use Rattle.chain.proofs.laws.Pushed.{pushed-length}
 use Rattle.tables.specs.declared.record.Record.{Record}
 use Rattle.tables.specs.Layout.{recordAt}
+use Rattle.opening.proofs.laws.Filling.{Cleared}
 use Rattle.sound.specs.Check.{Decides}
-use Rattle.soundness.specs.Check.{Run, keyOf, pairAt, Has, Untaken, Single, AllSingle, Fresh, Entered}
+use Rattle.soundness.specs.Check.{Zeroed, Run, heads, keyOf, pairAt, Has, Untaken, Single, AllSingle, Fresh, Entered}
 use Rattle.sound.proofs.laws.Deciding.{decides-true, decides-false, decides-same, refused, granted, Swept, swept-none, swept-on, swept-all, swept-failed}
 use Rattle.soundness.proofs.laws.Chains.{Walked, walked-on}
 
-pub key-low : (a b : ℕ) → keyOf a b < 20000
+pub key-low : (a b : ℕ) → keyOf a b < heads
 unfolding keyOf
 key-low a b = omega arith
 
-pub key-is : {a b x y k : ℕ} → x ≡ a → y ≡ b → k ≡ (x * 7919 + y) % 19997 → k ≡ keyOf a b
+pub key-is : {a b x y k : ℕ} → x ≡ a → y ≡ b → k ≡ (x * 7919 + y) % 79999 → k ≡ keyOf a b
 unfolding keyOf
 key-is e f g = rw (g, e, f)
+
+-- a table whose front is cleared
+pub zeroed-front : {n i size : ℕ} {l : List ℕ} → Cleared 0 size i l → n ≤ i → Zeroed n size l
+zeroed-front {n} {i} {size} {l} c h = record {
+  size = c .length-is;
+  zero = λ v k. sym (getD-take i l v 0 (omega arith)) ∙ ap (λ (t : List ℕ). getD t v 0) (c .front) ∙ getD-replicate i v 0 0 (omega arith);
+}
 
 -- ---- one vertex
 
@@ -42,7 +51,7 @@ module _ (r : List ℕ) (i n a b : ℕ) where
   Seeking x = Walked (pairAt r i) (λ (s : ℕ). Has r (i + s) a b) (n - i) (keyOf a b) x
 
   -- the place x - 1 is asked, and the walk goes on
-  pub seek-on : {scratch : List ℕ} {x next : ℕ} {y : Bool} → Indexed (pairAt r i) (n - i) 20000 scratch → Seeking x → 0 < x → next ≡ getD scratch (20000 + (x - 1)) 0 → Decides (Has r (i + (x - 1)) a b) y → y ≡ false → Seeking next
+  pub seek-on : {scratch : List ℕ} {x next : ℕ} {y : Bool} → Indexed (pairAt r i) (n - i) heads scratch → Seeking x → 0 < x → next ≡ getD scratch (heads + (x - 1)) 0 → Decides (Has r (i + (x - 1)) a b) y → y ≡ false → Seeking next
   seek-on t w more e d f = walked-on t w more e (d .no f)
 
 module _ {r : List ℕ} {i n a b x : ℕ} (h : Run i n) (w : Seeking r i n a b x) where
@@ -64,13 +73,13 @@ pub record Entering (r : List ℕ) (i n v : ℕ) (before scratch : List ℕ) : T
   pub swept : Swept (Single r i) i v
   pub within : v ≤ n
   pub size : length scratch ≡ length before
-  pub index : Indexed (pairAt r i) (v - i) 20000 scratch
+  pub index : Indexed (pairAt r i) (v - i) heads scratch
 
 module _ {r : List ℕ} {i n : ℕ} (h : Run i n) where
   pub entering-none : {scratch : List ℕ} → Fresh scratch → Entering r i n i scratch scratch
   entering-none {scratch} f =
       let none : i - i ≡ 0 = omega arith in
-      record { swept = swept-none i; within = h .order; size = refl; index = rw none (indexed-none (pairAt r i) 20000 scratch (omega (arith, f .size)) (f .clear)) }
+      record { swept = swept-none i; within = h .order; size = refl; index = rw none (indexed-none (pairAt r i) heads scratch (omega (arith, f .size)) (f .clear)) }
 
   module _ {v : ℕ} {before scratch : List ℕ} (k : Entering r i n v before scratch) where
     pub entering-run : Run i v
@@ -86,19 +95,19 @@ module _ {r : List ℕ} {i n : ℕ} (h : Run i n) where
       pub entered-twice : {y : Bool} → Decides (Untaken r i v (held .first) (held .second)) y → not y ≡ true → Entered r i n false scratch
       entered-twice d t = record { decides = swept-failed (k .swept) l (λ s. refused d t (rw e s)); index = λ f. absurd (true≢false (sym f)) }
 
-      pub entering-on : {q : ℕ} {next : List ℕ} {y : Bool} → Decides (Untaken r i v (held .first) (held .second)) y → not y ≡ false → 40000 ≤ length before → q ≡ keyOf (held .first) (held .second) → next ≡ pushed scratch 20000 (v - i) q → Entering r i n (v + 1) before next
+      pub entering-on : {q : ℕ} {next : List ℕ} {y : Bool} → Decides (Untaken r i v (held .first) (held .second)) y → not y ≡ false → 100000 ≤ length before → q ≡ keyOf (held .first) (held .second) → next ≡ pushed scratch heads (v - i) q → Entering r i n (v + 1) before next
       entering-on {q} {next} d t room f g =
           let u : Untaken r i v (held .first) (held .second) = granted d t in
           let same : i + (v - i) ≡ v = add-sub-of-le (k .swept .reached) in
           let key : q ≡ pairAt r i (v - i) = rw same (rw e at f) in
           let more : (v + 1) - i ≡ (v - i) + 1 = omega (arith, k .swept .reached) in
-          let low : pairAt r i (v - i) < 20000 = key-low _ _ in
+          let low : pairAt r i (v - i) < heads = key-low _ _ in
           record {
             swept = swept-on (k .swept) (rw e at u);
             within = omega arith;
-            size = rw g (pushed-length scratch 20000 (v - i) q ∙ k .size);
+            size = rw g (pushed-length scratch heads (v - i) q ∙ k .size);
             index = rw (more, g, key) (indexed-push-one (k .index) low (omega (arith, k .size, h .few)) (omega (arith, h .few)));
           }
 
-pub entered-index : {r scratch : List ℕ} {i n : ℕ} {y : Bool} → Entered r i n y scratch → not y ≡ false → Indexed (pairAt r i) (n - i) 20000 scratch
+pub entered-index : {r scratch : List ℕ} {i n : ℕ} {y : Bool} → Entered r i n y scratch → not y ≡ false → Indexed (pairAt r i) (n - i) heads scratch
 entered-index {y = y} e t = e .index (not-false y t)

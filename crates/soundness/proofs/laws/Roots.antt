@@ -6,7 +6,7 @@ use Prim.Native.Nat.{ℕ, _+_, _*_, _/_, _≤_, _<_}
 use native.Mathlib.Nat.{le-antisymm}
 use native.Mathlib.Numerals.{add-one}
 use native.Mathlib.Omega.{arith}
-use lib.ListN.{length, take, set, length-set, replicate, length-replicate}
+use lib.ListN.{length, take, set, length-set}
 use lib.Seq.{length-take-le, take-suc-set}
 use lib.Ieee.{Float}
 use Rattle.split.specs.declared.row.Row.{Row}
@@ -203,6 +203,3 @@ module _ {P : List Float} {R W : List ℕ} {c : Counts} (fit : Fitting (lent P R
         colours = rw vertices (rw (fs, es, colours-given) at (a .colours));
         rows = rw elements (rw (fs, es, rows-given) at (a .rows));
       }
-
-pub zeros-room : {m : ℕ} (n : ℕ) → m ≤ n → m ≤ length (replicate {A = ℕ} n 0)
-zeros-room n h = rw length-replicate h

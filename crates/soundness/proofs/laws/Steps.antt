@@ -1,11 +1,13 @@
 -- The steps of the check put together: a table that is all zero, and what each answer says of the whole.
-use mathlib.Core.Path.{_≡_, refl, sym}
+use mathlib.Core.Path.{_≡_, refl, sym, _∙_}
 use mathlib.Core.Bool.{Bool, true, false, not}
 use mathlib.Core.List.{List, []}
+use mathlib.Core.Logic.{_⊎_, inl, inr}
 use Prim.Native.Nat.{ℕ, _≤_, _<_}
 use native.Mathlib.Omega.{arith}
-use lib.ListN.{length, getD, replicate, length-replicate}
+use lib.ListN.{length, getD, List·getD-eq-default}
 use lib.Ieee.{Float}
+use Rattle.split.proofs.laws.Places.{le-or-lt}
 use Rattle.tables.specs.declared.layout.Counts.{Counts}
 use Rattle.tables.specs.Mesh.{meshOf}
 use Rattle.sound.specs.Sound.{Sound, Afresh}
@@ -15,12 +17,18 @@ use Rattle.shape.specs.declared.answer.Shape.{Shape}
 use Rattle.shape.specs.declared.answer.Shape.the-variants.{Not, Runs}
 use Rattle.shape.specs.Shape.{Shapely, Shapes}
 use Rattle.shape.proofs.laws.Fitted.{fitting-inside}
-use Rattle.shape.proofs.laws.Used.{zeros-at}
-use Rattle.soundness.specs.Check.{Fresh, Run, Rising, Rest, Pairs, Clauses, AllRuled}
+use Rattle.soundness.specs.Check.{Zeroed, Cleared, heads, Fresh, Run, Rising, Rest, Pairs, Clauses, AllRuled}
 use Rattle.soundness.proofs.laws.Checked.{initials-of, roots-of, sound-of, clauses-of, whole-of}
 
-pub zeros-fresh : (n : ℕ) → 40000 ≤ n → Fresh (replicate n 0)
-zeros-fresh n h = record { size = rw length-replicate h; clear = λ v l. zeros-at n v }
+pub zeroed-fresh : {size : ℕ} {scratch : List ℕ} → Zeroed heads size scratch → 100000 ≤ size → Fresh scratch
+zeroed-fresh z h = record { size = rw (z .size) h; clear = z .zero }
+
+pub zeroed-whole : {n m : ℕ} {l : List ℕ} → Zeroed n m l → m ≡ n → Cleared n l
+zeroed-whole {n} {l = l} z e = record { size = z .size ∙ e; zero = λ v. go v (le-or-lt n v) }
+  where
+    go : (v : ℕ) → (n ≤ v) ⊎ (v < n) → getD l v 0 ≡ 0
+    go v (inl h) = List·getD-eq-default l 0 (omega (arith, z .size))
+    go v (inr h) = z .zero v h
 
 module _ {p : List Float} {r w : List ℕ} {c : Counts} {i t : ℕ} (b : Shapely p r w c i t) where
   -- what the index of pairs relies on

@@ -6,8 +6,14 @@ use Rattle.soundness.proofs.steps.judge.Tie as tie
 afresh-requires : tie.Need-afresh-requires
 afresh-requires c κs = search needs
 
+same-length : tie.Need-same-length
+same-length c = search needs
+
 returns : tie.Need-returns
 returns c = search (judging, needs)
+
+same-length-2 : tie.Need-same-length-2
+same-length-2 c = search needs
 
 returns-2 : tie.Need-returns-2
 returns-2 c = search (judging, needs)
@@ -15,11 +21,17 @@ returns-2 c = search (judging, needs)
 midpoints-follow-requires : tie.Need-midpoints-follow-requires
 midpoints-follow-requires c κs = search needs
 
+same-length-3 : tie.Need-same-length-3
+same-length-3 c = search needs
+
 returns-3 : tie.Need-returns-3
 returns-3 c = search (judging, needs)
 
 pairs-fit-requires : tie.Need-pairs-fit-requires
-pairs-fit-requires c κs = search (judging, needs)
+pairs-fit-requires c κs = (search (judging, needs), (search (judging, needs), search needs))
+
+same-length-4 : tie.Need-same-length-4
+same-length-4 c = search needs
 
 returns-4 : tie.Need-returns-4
 returns-4 c = search (judging, needs)
@@ -29,9 +41,13 @@ judge-spec =
     tie.close
     (tie.spec
     afresh-requires
+    same-length
     returns
+    same-length-2
     returns-2
     midpoints-follow-requires
+    same-length-3
     returns-3
     pairs-fit-requires
+    same-length-4
     returns-4)
