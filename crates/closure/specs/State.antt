@@ -2,7 +2,7 @@
 use mathlib.Core.Path.{_≡_}
 use mathlib.Core.Bool.{cond}
 use mathlib.Core.List.{List, [], _∷_}
-use Prim.Native.Nat.{ℕ, _+_, _-_, _*_, _/_, _≤_, _<_}
+use Prim.Native.Nat.{ℕ, _+_, _-_, _*_, _/_, _%_, _≤_, _<_}
 use lib.Dec.{ltb}
 use lib.ListN.{length, getD, set}
 use Rattle.split.specs.declared.row.Row.{Row}
@@ -12,9 +12,8 @@ use Rattle.tables.specs.declared.layout.Counts.{Counts}
 use Rattle.tables.specs.declared.record.Record.{Record}
 use Rattle.tables.specs.Layout.{rowWidth, recordWidth, noRecord, noRow, recordAt, rowAt}
 use Rattle.tables.specs.Mesh.{upTo}
-use Rattle.closure.specs.State.{corner}
 use Rattle.run.specs.Skeleton.{Skeleton}
-use Rattle.split.specs.Split.{Distinct}
+use Rattle.split.specs.Split.{at, Distinct}
 use Rattle.split.specs.Row.{cornersOf}
 use Rattle.run.specs.Run.{holders, cut, cutAll}
 
@@ -28,6 +27,10 @@ recordsOf r n = upTo (recordAt r) n
 
 abbrev pub seen : List ℕ → List ℕ → Counts → Skeleton
 seen r w c = record { records = recordsOf r (c .vertices); rows = rowsOf w (c .rows) }
+
+-- the vertex at corner slot s: place s % 4 of row s / 4
+abbrev pub corner : List ℕ → ℕ → ℕ
+corner w s = at (cornersOf (rowAt w (s / 4))) (s % 4)
 
 -- ---- the scratch table: heads, links, uses, and at its end the patch
 
