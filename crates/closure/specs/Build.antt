@@ -7,15 +7,15 @@ use Rattle.tables.specs.Layout.{rowWidth, noRow, rowAt}
 use Rattle.closure.specs.State.{corner}
 use Rattle.closure.specs.State.{linksAt, scratchLength}
 
--- the first n rows can be put into the index
-pub record Indexable (w s : List ℕ) (n : ℕ) : Type 0 where
-  pub size : length s ≡ scratchLength
-  pub few : n ≤ 100000
-  pub fits : n ≤ length w / rowWidth
-  pub low : (k : ℕ) → k < 4 * n → corner w k < linksAt
-  pub blank : (k : ℕ) → n ≤ k → rowAt w k ≡ noRow
-
 -- no vertex has a slot yet
 pub record Headless (s : List ℕ) : Type 0 where
   pub size : length s ≡ scratchLength
   pub heads : (v : ℕ) → v < linksAt → getD s v 0 ≡ 0
+
+-- the first n rows can be put into the index
+pub record Indexable (w s : List ℕ) (n : ℕ) : Type 0 where
+  pub fresh : Headless s
+  pub few : n ≤ 100000
+  pub fits : n ≤ length w / rowWidth
+  pub low : (k : ℕ) → k < 4 * n → corner w k < linksAt
+  pub blank : (k : ℕ) → n ≤ k → rowAt w k ≡ noRow

@@ -13,7 +13,7 @@ use Rattle.frame.specs.Marks.{onMarks}
 use Rattle.frame.specs.Points.{filled}
 use Rattle.closure.specs.declared.answer.Refined.{Refined}
 use Rattle.closure.specs.declared.answer.Refined.the-variants.{Done}
-use Rattle.closure.specs.State.{scratchLength}
+use Rattle.closure.specs.Build.{Headless}
 use Rattle.closure.specs.Refine.{OnRoom, OnMarks}
 
 pub record Finishes (p : List Float) (r : List ℕ) (c d : Counts) (o : Refined) (p' : List Float) : Type 0 where
@@ -22,7 +22,7 @@ pub record Finishes (p : List Float) (r : List ℕ) (c d : Counts) (o : Refined)
 
 pub record Closable (p : List Float) (r w s : List ℕ) (c : Counts) (marks : List ℕ) : Type 0 where
   pub sound : Sound (lent p r w) c
-  pub size : length s ≡ scratchLength
+  pub fresh : Headless s
   pub passed : onMarks w (c .rows) marks ≡ Passed
 
 -- the answer and the tables as `OnRoom` has them, however the tables are shown to be sound
@@ -31,7 +31,7 @@ pub record Closes (t : Lent) (c : Counts) (marks : List ℕ) (o : Refined) (t' :
 
 pub record Callable (p : List Float) (r w s : List ℕ) (c : Counts) : Type 0 where
   pub sound : Sound (lent p r w) c
-  pub size : length s ≡ scratchLength
+  pub fresh : Headless s
 
 pub record Calls (t : Lent) (c : Counts) (marks : List ℕ) (o : Refined) (t' : Lent) : Type 0 where
   pub judged : (s : Sound t c) → OnMarks t c (s .initials) (s .roots) marks o t'

@@ -15,37 +15,9 @@ use Rattle.chain.proofs.laws.Index.{indexed-none, indexed-push-one}
 use Rattle.tables.specs.Layout.{rowAt}
 use Rattle.closure.specs.State.{corner}
 use Rattle.closure.specs.State.{linksAt, scratchLength, cornersPushed, rowPushed, State}
-use Rattle.closure.specs.Build.{Indexable, Headless}
+use Rattle.closure.specs.Build.{Indexable}
 use Rattle.closure.proofs.laws.Index.{corner-row, rowPushed-length}
 use Rattle.closure.proofs.laws.Uses.{row-counted-indexed}
-
--- ---- the heads
-
--- the first i heads are cleared
-pub record Clearing (s : List ℕ) (i : ℕ) : Type 0 where
-  pub size : length s ≡ scratchLength
-  pub within : i ≤ linksAt
-  pub heads : (v : ℕ) → v < i → getD s v 0 ≡ 0
-
-pub clearing-start : {s : List ℕ} → length s ≡ scratchLength → Clearing s 0
-clearing-start e = record { size = e; within = omega arith; heads = λ v h. absurd (omega arith) }
-
-pub clearing-next : {s : List ℕ} {i : ℕ} → Clearing s i → i < linksAt → Clearing (set s i 0) (i + 1)
-clearing-next {s} {i} c h = record {
-  size = length-set s i 0 ∙ c .size;
-  within = omega arith;
-  heads = λ v l. elim (ℕ-discrete v i) [
-    | yes e ↦ rw e (getD-set-same s i 0 0 (omega (arith, c .size)))
-    | no d ↦ getD-set-other s i v 0 0 d ∙ c .heads v (omega arith)
-  ];
-}
-
-pub clearing-end : {s : List ℕ} {i : ℕ} → Clearing s i → linksAt ≤ i → Headless s
-clearing-end c h = record { size = c .size; heads = λ v l. c .heads v (omega arith) }
-
-pub ruleset clearing = (clearing-start, clearing-next, clearing-end)
-
--- ---- the rows
 
 -- the first k rows are in the index
 pub record Building (w s : List ℕ) (n k : ℕ) : Type 0 where
@@ -54,8 +26,8 @@ pub record Building (w s : List ℕ) (n k : ℕ) : Type 0 where
   pub within : k ≤ n
 
 module _ {w s₀ : List ℕ} {n : ℕ} (x : Indexable w s₀ n) where
-  pub building-start : {s : List ℕ} → Headless s → Building w s n 0
-  building-start {s} z = record { size = z .size; index = indexed-none (corner w) linksAt s (omega (arith, z .size)) (z .heads); within = omega arith }
+  pub building-start : Building w s₀ n 0
+  building-start = record { size = x .fresh .size; index = indexed-none (corner w) linksAt s₀ (omega (arith, x .fresh .size)) (x .fresh .heads); within = omega arith }
 
   -- one slot of row k more
   slot-added : (k slot next q : ℕ) (l : List ℕ) → k < n → q ≤ 3 → slot ≡ 4 * k + q → next ≡ slot + 1 → length l ≡ scratchLength → Indexed (corner w) slot linksAt l → Indexed (corner w) next linksAt (pushed l linksAt slot (at (cornersOf (rowAt w k)) q))

@@ -79,7 +79,7 @@ module _ {p : List Float} {r w s : List ℕ} {c : Counts} {marks : List ℕ} (x 
   fit = roomy (length p) (length r) (length w)
 
   pub close-index : Indexable w s (c .rows)
-  close-index = entry-index (x .sound) (x .size)
+  close-index = entry-index (x .sound) (x .fresh)
 
   pub close-due : {o : Counts} {s' : List ℕ} → o ≡ room → State w s' (c .rows) → AllDue r w s' c o marks
   close-due e z = rw e (record { steady = entry-steady (x .sound) z; fine = mark-fine (x .sound) marks (ok .there) (ok .shallow) })
@@ -250,7 +250,7 @@ module _ {p : List Float} {r w s : List ℕ} {c : Counts} (x : Callable p r w s 
 
   module _ (f : v ≡ verdict.Passed) where
     pub call-closable : Closable p r w s c marks
-    call-closable = record { sound = x .sound; size = x .size; passed = sym e ∙ f }
+    call-closable = record { sound = x .sound; fresh = x .fresh; passed = sym e ∙ f }
 
     pub call-closed : {a : Refined} {t : Lent} → Closes (lent p r w) c marks a t → Calls (lent p r w) c marks a t
     call-closed g = let ok = fair {w = w} {n = c .rows} {marks = marks} (sym e ∙ f) in record { judged = λ y. present (ok .there) (shallow (marks-shallow y marks (ok .there) (ok .shallow)) (g .room y)) }
@@ -267,6 +267,6 @@ module _ {t : Lent} {c : Counts} {marks : List ℕ} {b : Bool} (d : Decides (Sou
   refine-sound e g = let s = d .yes (not-false b e) in sound s (g .judged s)
 
 pub refine-callable : {p : List Float} {r w s : List ℕ} {c : Counts} {b : Bool} → Decides (Sound (lent p r w) c) b × Cleared scratchLength s → not b ≡ false → Callable p r w s c
-refine-callable {b = b} d e = record { sound = d .0 .yes (not-false b e); size = d .1 .size }
+refine-callable {b = b} d e = record { sound = d .0 .yes (not-false b e); fresh = record { size = d .1 .size; heads = λ v h. d .1 .zero v } }
 
 pub ruleset wholly = (refine-unsound, refine-sound, refine-callable)

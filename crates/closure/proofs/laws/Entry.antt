@@ -22,7 +22,7 @@ use Rattle.run.specs.Skeleton.{Skeleton, meshed}
 use Rattle.run.specs.Ready.{Ready}
 use Rattle.run.proofs.laws.Points.{points-own}
 use Rattle.closure.specs.State.{rowsOf, recordsOf, seen, linksAt, scratchLength, State}
-use Rattle.closure.specs.Build.{Indexable}
+use Rattle.closure.specs.Build.{Headless, Indexable}
 use Rattle.closure.specs.Refining.{Tables}
 use Rattle.closure.specs.Marking.{Steady}
 use Rattle.closure.proofs.laws.Blank.{rows-blank, records-blank}
@@ -72,8 +72,8 @@ module _ {p : List Float} {r w : List ℕ} {c : Counts} (s : Sound (lent p r w) 
   blank-rows : (k : ℕ) → c .rows ≤ k → rowAt w k ≡ noRow
   blank-rows = rows-blank w (c .rows) (s .unused .rows)
 
-  pub entry-index : {scratch : List ℕ} → length scratch ≡ scratchLength → Indexable w scratch (c .rows)
-  entry-index e = record { size = e; few = omega (arith, s .fitting .rows-fit, fit .few-rows); fits = omega (arith, s .fitting .rows-fit, fit .rows-fit); low = corner-low; blank = blank-rows }
+  pub entry-index : {scratch : List ℕ} → Headless scratch → Indexable w scratch (c .rows)
+  entry-index e = record { fresh = e; few = omega (arith, s .fitting .rows-fit, fit .few-rows); fits = omega (arith, s .fitting .rows-fit, fit .rows-fit); low = corner-low; blank = blank-rows }
 
   pub entry-tables : {scratch : List ℕ} → State w scratch (c .rows) → Tables r w scratch c room
   entry-tables x = record {

@@ -10,9 +10,6 @@ Inv-loop rows scratch₀ n k₀ scratch k = Building rows scratch n k
 abbrev μ-loop : tie.MeasureT-loop
 μ-loop rows scratch₀ n k₀ scratch k = n - k
 
-clear-heads-requires : tie.Need-clear-heads-requires Inv-loop μ-loop
-clear-heads-requires c κs = search (building, needs)
-
 loop-holds : tie.Need-loop-holds Inv-loop μ-loop
 loop-holds c = search (building, needs)
 
@@ -40,7 +37,6 @@ index-rows-spec =
     (tie.spec
     Inv-loop
     μ-loop
-    clear-heads-requires
     loop-holds
     index-standing-requires
     add-k
