@@ -2,6 +2,7 @@
 // It lies in one lent table: the heads, one for each key below `base`, and from `base` on the links, one for each place.
 
 ghost use mathlib.Core.Path.{_≡_};
+ghost use lib.ListN.{set};
 ghost use Rattle.chain.specs.Chain.{pushed};
 
 // Appends place i with its key. What does not fit changes nothing.
@@ -29,4 +30,13 @@ pub fn wide(x: u32) -> usize
     ensures { λ r. ⌜ r ≡ x ⌝ }
 {
     x as usize
+}
+
+// Stores a number where the table has the place.
+pub fn put(table: &mut [u32], i: usize, x: u32)
+    ensures { λ _. ⌜ now (table .exit) ≡ set (now (table .entry)) i x ⌝ }
+{
+    if i < table.len() {
+        table[i] = x;
+    }
 }

@@ -1,4 +1,5 @@
 // One root's tree, by recursion (document 01, "What comes back": the first child's side before the second's).
+use chain::put;
 use chain::wide;
 ghost use mathlib.Core.Path.{_≡_};
 ghost use lib.ListN.{set};
@@ -10,15 +11,6 @@ fn level(depth: u32) -> u32
     ensures { λ r. ⌜ r ≡ levelOf depth ⌝ }
 {
     depth / 3
-}
-
-// Stores x at place i; nothing changes where the list has no place i.
-fn put(list: &mut [u32], i: usize, x: u32)
-    ensures { λ _. ⌜ now (list .exit) ≡ set (now (list .entry)) i x ⌝ }
-{
-    if i < list.len() {
-        list[i] = x;
-    }
 }
 
 // Lists the leaf k, and answers the next place.

@@ -1,8 +1,8 @@
 // Number 8 and the colours of Algorithm 2, in number order, through the index.
 use crate::answer::Found;
 use crate::elements::vertex_at;
-use crate::elements::wide;
 use crate::index::LINKS;
+use chain::wide;
 ghost use mathlib.Core.Path.{_≡_};
 ghost use Prim.Native.Nat.{ℕ, _*_, _/_, _<_, _≤_, _+_, min};
 ghost use lib.ListN.{length, getD};

@@ -1,17 +1,11 @@
 // Numbers 4 and 5: a vertex that isn't there, a vertex named twice.
 use crate::answer::Found;
+use chain::wide;
 ghost use mathlib.Core.Path.{_≡_};
 ghost use Prim.Native.Nat.{_*_, _/_, _<_, _+_};
 ghost use lib.ListN.{length};
 ghost use Rattle.opening.specs.Causes.{vertex, missing, double, twice};
 ghost use Rattle.opening.specs.Search.{first};
-
-// A number of a table as an index.
-pub fn wide(x: u32) -> usize
-    ensures { λ r. ⌜ r ≡ x ⌝ }
-{
-    x as usize
-}
 
 // The vertex at place q of element k.
 pub fn vertex_at(elements: &[u32], k: usize, q: usize) -> usize

@@ -1,7 +1,7 @@
 // Numbers 6 and 7 at one element, through the index of the elements before it: the same four vertices before, a face in two elements before.
 use crate::elements::vertex_at;
-use crate::elements::wide;
 use crate::index::LINKS;
+use chain::wide;
 ghost use mathlib.Core.Path.{_≡_};
 ghost use Prim.Native.Nat.{_*_, _/_, _<_, _+_};
 ghost use lib.ListN.{length};

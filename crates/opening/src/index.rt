@@ -1,6 +1,6 @@
 // The index of corner slots: place 4 k + q has the key vertex q of element k. It is a table of the heads and then the links. Beside it stands how often each vertex is used so far.
 
-use crate::elements::wide;
+use chain::wide;
 ghost use Prim.Native.Nat.{_*_, _/_, _<_, _+_};
 ghost use lib.ListN.{length};
 ghost use Rattle.opening.specs.Scratch.{Plain, Filled};

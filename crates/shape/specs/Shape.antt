@@ -1,5 +1,6 @@
 -- Clauses 1, 2, 4, 5 and 8 of sound tables, and of clause 6 that each midpoint was made by a split (01, "Sound tables"): what one pass over the tables decides.
 use mathlib.Core.Path.{_≡_}
+use mathlib.Core.Bool.{Bool, true}
 use mathlib.Core.List.{List, []}
 use Prim.Native.Nat.{ℕ, _*_, _≤_, _<_}
 use lib.ListN.{length, getD}
@@ -11,7 +12,7 @@ use Rattle.tables.specs.declared.layout.Counts.{Counts}
 use Rattle.tables.specs.Mesh.{Mesh, Unused}
 use Rattle.tables.specs.Layout.{recordAt, rowAt, rowWidth}
 use Rattle.sound.specs.Sound.{rows, rowOf, childless, place, Child, Parent, Fitting}
-use Rattle.sound.specs.Check.{lent, bare}
+use Rattle.sound.specs.Check.{Decides, lent, bare}
 use Rattle.shape.specs.declared.answer.Shape.{Shape}
 use Rattle.shape.specs.declared.answer.Shape.the-variants.{Not, Runs}
 
@@ -65,13 +66,22 @@ pub record Begun (p : List Float) (r w : List ℕ) (c : Counts) (i t : ℕ) : Ty
   pub initials : Initials r (c .vertices) i
   pub roots : Roots w (c .rows) t
 
+-- the answer b: the rows from t on are children by clause 4, and then the flags are those of their midpoints
+pub record Followed (r w : List ℕ) (c : Counts) (i t : ℕ) (b : Bool) (flags : List ℕ) : Type 0 where
+  pub decides : Decides (Children (bare r w c) i t) b
+  pub marked : b ≡ true → Marked w t (c .rows) flags
+
+-- clause 4, and that each midpoint was made with a row
+pub record Bred (r w : List ℕ) (c : Counts) (i t : ℕ) : Type 0 where
+  pub children : Children (bare r w c) i t
+  pub used : AllUsed w c i t
+
 -- clauses 2, 4 and 5, and each midpoint was made
 pub record Half (r w : List ℕ) (c : Counts) (i t : ℕ) : Type 0 where
   pub midpoints : (v : ℕ) → i ≤ v → v < c .vertices → recordAt r v .second ≡ 4294967295 → ⊥
   pub later : (k : ℕ) → t ≤ k → k < c .rows → rowAt w k .parent ≡ k → ⊥
-  pub children : Children (bare r w c) i t
+  pub bred : Bred r w c i t
   pub parents : Parents (bare [] w c) t
-  pub used : AllUsed w c i t
 
 -- all of them, with i and t where the leading runs end
 pub record Shapely (p : List Float) (r w : List ℕ) (c : Counts) (i t : ℕ) : Type 0 where

@@ -1,4 +1,6 @@
 // Clauses 4 and 5: each later row is one child of exactly one earlier row, by the split table; each split row has two children.
+use crate::used::middle;
+use chain::put;
 use chain::wide;
 use split::row::Ends;
 use split::row::Row;
@@ -6,11 +8,12 @@ use tables::layout::Counts;
 ghost use mathlib.Core.Path.{_≡_};
 ghost use mathlib.Core.List.{[]};
 ghost use Prim.Native.Nat.{ℕ, _≤_, _<_};
+ghost use lib.ListN.{getD};
 ghost use Rattle.split.specs.Split.{far};
 ghost use Rattle.split.specs.Row.{readTag, cornersOf};
 ghost use Rattle.sound.specs.Sound.{childless, Records, Child, Parent};
 ghost use Rattle.sound.specs.Check.{Decides, bare};
-ghost use Rattle.shape.specs.Shape.{Inside, Children, Parents, Sided};
+ghost use Rattle.shape.specs.Shape.{Inside, Parents, Sided, Followed};
 
 // The vertex at the place of a tag.
 pub fn vertex_at(tag: u32, r: Row) -> u32
@@ -107,9 +110,18 @@ fn child_follows(records: &[u32], rows: &[u32], c: Counts, i: usize, r: usize) -
     is_child(held, r, parent, p, m)
 }
 
-pub fn children_follow(records: &[u32], rows: &[u32], c: Counts, i: usize, t: usize) -> bool
+// Sets the flag of each midpoint at which a row from t on was made, as long as the rows follow.
+pub fn children_follow(
+    records: &[u32],
+    rows: &[u32],
+    c: Counts,
+    i: usize,
+    t: usize,
+    flags: &mut [u32],
+) -> bool
     requires { ⌜ Inside (now records) (now rows) c ⌝ }
-    ensures { λ b. ⌜ Decides (Children (bare (now (records .entry)) (now (rows .entry)) c) i t) b ⌝ }
+    requires { ⌜ ((v : ℕ) → getD (now flags) v 0 ≡ 0) ⌝ }
+    ensures { λ b. ⌜ Followed (now (records .entry)) (now (rows .entry)) c i t b (now (flags .exit)) ⌝ }
 {
     let n = c.rows;
     let mut r = t;
@@ -117,6 +129,7 @@ pub fn children_follow(records: &[u32], rows: &[u32], c: Counts, i: usize, t: us
         if !child_follows(records, rows, c, i, r) {
             return false;
         }
+        put(flags, middle(rows, r), 1);
         r += 1;
     }
     true

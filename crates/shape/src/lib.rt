@@ -22,13 +22,10 @@ fn half(records: &[u32], rows: &[u32], c: Counts, i: usize, t: usize) -> bool
     if !parts::no_root_from(rows, t, c.rows) {
         return false;
     }
-    if !family::children_follow(records, rows, c, i, t) {
+    if !used::children_fit(records, rows, c, i, t) {
         return false;
     }
-    if !family::parents_follow(rows, c, t) {
-        return false;
-    }
-    used::all_used(rows, c, i, t)
+    family::parents_follow(rows, c, t)
 }
 
 // Whether the tables and counts have the shape of sound ones, and where then the leading runs end.

@@ -1,4 +1,5 @@
 // Clause 3: opening the initial vertices and roots afresh gives the same colours and, but for the first child, the same rows.
+use chain::put;
 use tables::layout::Counts;
 ghost use mathlib.Core.Path.{_≡_};
 ghost use Prim.Native.Nat.{_*_, _≤_};
@@ -7,15 +8,6 @@ ghost use Rattle.tables.specs.Layout.{rowAt};
 ghost use Rattle.tables.specs.Mesh.{meshOf, flat, upTo};
 ghost use Rattle.sound.specs.Sound.{Afresh, vertexCells, Fitting};
 ghost use Rattle.sound.specs.Check.{Decides, lent};
-
-// Stores a number where the table has the place.
-fn put(table: &mut [u32], i: usize, x: u32)
-    ensures { λ _. ⌜ now (table .exit) ≡ set (now (table .entry)) i x ⌝ }
-{
-    if i < table.len() {
-        table[i] = x;
-    }
-}
 
 // Gathers the vertices of the first t rows, four numbers each.
 pub fn gather(rows: &[u32], t: usize, elements: &mut [u32])

@@ -16,33 +16,26 @@ no-root-from-requires c κs = search needs
 returns-2 : tie.Need-returns-2
 returns-2 c = decides-false (λ h. refused (c .before .no-root-from .ensures) (c .if2 .taken) (h .later))
 
-children-follow-requires : tie.Need-children-follow-requires
-children-follow-requires c κs = search needs
+children-fit-requires : tie.Need-children-fit-requires
+children-fit-requires c κs = search needs
 
 returns-3 : tie.Need-returns-3
-returns-3 c = decides-false (λ h. refused (c .before .children-follow .ensures) (c .if3 .taken) (h .children))
+returns-3 c = decides-false (λ h. refused (c .before .children-fit .ensures) (c .if3 .taken) (h .bred))
 
 parents-follow-requires : tie.Need-parents-follow-requires
 parents-follow-requires c κs = search (inside-rows, needs)
 
 returns-4 : tie.Need-returns-4
-returns-4 c = decides-false (λ h. refused (c .before .parents-follow .ensures) (c .if4 .taken) (h .parents))
-
-all-used-requires : tie.Need-all-used-requires
-all-used-requires c κs = search needs
-
-returns-5 : tie.Need-returns-5
-returns-5 c =
+returns-4 c =
     decides-same
     (λ q. record {
-      midpoints = granted (c .before .before .before .before .before .before .before .before .no-initial-from .ensures) (c .before .before .before .before .before .before .before .if1 .left);
-      later = granted (c .before .before .before .before .before .before .no-root-from .ensures) (c .before .before .before .before .before .if2 .left);
-      children = granted (c .before .before .before .before .children-follow .ensures) (c .before .before .before .if3 .left);
-      parents = granted (c .before .before .parents-follow .ensures) (c .before .if4 .left);
-      used = q;
+      midpoints = granted (c .before .before .before .before .before .before .no-initial-from .ensures) (c .before .before .before .before .before .if1 .left);
+      later = granted (c .before .before .before .before .no-root-from .ensures) (c .before .before .before .if2 .left);
+      bred = granted (c .before .before .children-fit .ensures) (c .before .if3 .left);
+      parents = q;
     })
-    (λ h. h .used)
-    (c .all-used .ensures)
+    (λ h. h .parents)
+    (c .parents-follow .ensures)
 
 pub half-spec : {M : Type 1} → statement M
 half-spec =
@@ -52,9 +45,7 @@ half-spec =
     returns
     no-root-from-requires
     returns-2
-    children-follow-requires
+    children-fit-requires
     returns-3
     parents-follow-requires
-    returns-4
-    all-used-requires
-    returns-5)
+    returns-4)

@@ -1,22 +1,25 @@
 -- Of clause 6: the flags tell which midpoints are used.
 use mathlib.Core.Path.{_≡_, refl, sym, ap, _∙_}
 use mathlib.Core.Logic.{_⊎_, inl, inr}
-use mathlib.Core.Bool.{Bool, true, false}
+use mathlib.Core.Bool.{Bool, true, false, not, true≢false}
 use mathlib.Core.List.{List}
 use Prim.Native.Nat.{ℕ, _+_, _≤_, _<_}
 use native.Mathlib.Decide.{ℕ-discrete}
 use native.Mathlib.Omega.{arith}
 use lib.ListN.{length, getD, set, length-set, replicate, length-replicate, getD-replicate, List·getD-eq-default}
-use lib.Seq.{getD-set-same, getD-set-other}
+use lib.Seq.{getD-set-same, getD-set-other, set-out}
+use borrow.Author.Tests.{not-false}
 use Rattle.split.specs.declared.row.Row.{Row}
 use Rattle.split.specs.Split.{far}
 use Rattle.split.specs.Row.{readTag, cornersOf}
 use Rattle.split.proofs.laws.Places.{le-or-lt}
 use Rattle.tables.specs.declared.layout.Counts.{Counts}
 use Rattle.tables.specs.Layout.{rowAt}
-use Rattle.sound.specs.Check.{Decides}
-use Rattle.sound.proofs.laws.Deciding.{decides-same, decides-true}
-use Rattle.shape.specs.Shape.{middleAt, Marked, AllUsed}
+use Rattle.sound.specs.Sound.{Child}
+use Rattle.sound.specs.Check.{Decides, bare}
+use Rattle.sound.proofs.laws.Deciding.{decides-true, decides-false, decides-same, granted, refused}
+use Rattle.shape.specs.Shape.{middleAt, Marked, Followed, AllUsed}
+use Rattle.shape.proofs.laws.Family.{mesh-rows, Asked, asked-start, asked-on, asked-stop, asked-end}
 
 -- the midpoint of a row, as the code reads it
 pub middle-is : (w : List ℕ) (r : ℕ) {k x v : ℕ} {held parent : Row} → held ≡ rowAt w r → k ≡ held .parent → parent ≡ rowAt w k → x ≡ far (readTag (parent .tag)) (cornersOf held) → v ≡ x → v ≡ middleAt w r
@@ -60,13 +63,36 @@ module _ {w : List ℕ} {t n r m : ℕ} {before flags : List ℕ} (k : Marking w
           omega arith
       shows q f b s (no j) z = k .shown q f (omega arith) s z
 
-  -- after the code's test
-  pub marking-next : {A B : Type 0} {after : List ℕ} → (A → m < length flags) → (B → length flags ≤ m) → (A × (after ≡ set flags m 1)) ⊎ (B × (after ≡ flags)) → Marking w t n (r + 1) before after
-  marking-next y z (inl a) = rw (a .1) (marking-set (y (a .0)))
-  marking-next y z (inr b) = rw (b .1) (marking-out (z (b .0)))
+  -- what is past the end is not stored
+  pub marking-next : {after : List ℕ} → after ≡ set flags m 1 → Marking w t n (r + 1) before after
+  marking-next {after} f = go (le-or-lt (length flags) m)
+    where
+      go : (length flags ≤ m) ⊎ (m < length flags) → Marking w t n (r + 1) before after
+      go (inl l) = rw (f ∙ set-out flags m 1 l) (marking-out l)
+      go (inr l) = rw f (marking-set l)
 
 pub marking-done : {w : List ℕ} {t n r : ℕ} {before flags : List ℕ} → Marking w t n r before flags → n ≤ r → Marked w t n flags
 marking-done k l = record { set = λ q f b. k .shown q f (omega arith); only = k .only }
+
+-- ---- the rows from t on, asked one after the other, with the flags of their midpoints
+
+pub record Following (r w : List ℕ) (c : Counts) (i t k : ℕ) (before flags : List ℕ) : Type 0 where
+  pub asked : Asked (Child (bare r w c) i) t k
+  pub marking : Marking w t (c .rows) k before flags
+
+pub following-none : {r w flags : List ℕ} {c : Counts} {i t : ℕ} → ((v : ℕ) → getD flags v 0 ≡ 0) → Following r w c i t t flags flags
+following-none z = record { asked = asked-start _ _; marking = marking-start _ _ _ z }
+
+module _ {r w : List ℕ} {c : Counts} {i t k : ℕ} {before flags : List ℕ} (f : Following r w c i t k before flags) where
+  pub following-all : c .rows ≤ k → Followed r w c i t true flags
+  following-all l = record { decides = decides-true (asked-end (f .asked) (rw (mesh-rows r w c) l)); marked = λ e. marking-done (f .marking) l }
+
+  module _ (l : k < c .rows) {y : Bool} (d : Decides (Child (bare r w c) i k) y) where
+    pub following-stop : not y ≡ true → Followed r w c i t false flags
+    following-stop e = record { decides = decides-false (asked-stop (f .asked) (rw (mesh-rows r w c) l) (refused d e)); marked = λ b. absurd (true≢false (sym b)) }
+
+    pub following-on : {m : ℕ} {after : List ℕ} → not y ≡ false → m ≡ middleAt w k → after ≡ set flags m 1 → Following r w c i t (k + 1) before after
+    following-on e g h = record { asked = asked-on (f .asked) (granted d e); marking = marking-next (f .marking) l g h }
 
 -- ---- all of them
 
@@ -84,5 +110,5 @@ used-marked {w} {flags} {c} {i} {t} m few d = decides-same (λ f v a b. m .only 
     go : (v : ℕ) → v < c .vertices → getD flags v 0 ≡ 0 → (k : ℕ) × (t ≤ k) × (k < c .rows) × (middleAt w k ≡ v) → ⊥
     go v l e u = m .set (u .0) (u .1) (u .2) (rw (u .3) (omega arith)) (rw (u .3) e)
 
-pub used-none : (w : List ℕ) (c : Counts) (i t : ℕ) → c .vertices ≤ i → Decides (AllUsed w c i t) true
-used-none w c i t h = decides-true (λ v a b. absurd (omega (arith, h)))
+pub followed-marked : {r w flags : List ℕ} {c : Counts} {i t : ℕ} {y : Bool} → Followed r w c i t y flags → not y ≡ false → Marked w t (c .rows) flags
+followed-marked {y = y} f e = f .marked (not-false y e)

@@ -50,11 +50,11 @@ module _ {p : List Float} {r w : List ℕ} {c : Counts} {i t : ℕ} (b : Shapely
         midpoints = b .half .midpoints;
         later = b .half .later;
         afresh = a;
-        children = b .half .children;
+        children = b .half .bred .children;
         parents = b .half .parents;
         ruled = s .ruled;
         single = s .pairs .single;
-        used = b .half .used;
+        used = b .half .bred .used;
       }
 
   sound-from : Afresh (meshOf (lent p r w) c) i t → Rest p r w c i → Sound (lent p r w) c
@@ -100,7 +100,7 @@ module _ {p : List Float} {r w : List ℕ} {c : Counts} where
       let x = clauses-of s ini roo in
       record {
         begun = record { fitting = s .fitting; unused = s .unused; initials = ini; roots = roo };
-        half = record { midpoints = x .midpoints; later = x .later; children = x .children; parents = x .parents; used = x .used };
+        half = record { midpoints = x .midpoints; later = x .later; bred = record { children = x .children; used = x .used }; parents = x .parents };
       }
 
   module _ {o : Shape} (x : Shapes p r w c o) where

@@ -1,26 +1,32 @@
 use Prim.Native.Nat.{_-_}
-use native.Mathlib.Omega.{arith}
 use borrow.Author.Needs.{needs}
-use Rattle.sound.specs.Check.{bare}
-use Rattle.sound.specs.Sound.{Child}
-use Rattle.shape.proofs.laws.Family.{decides-true, decides-false, granted, refused, mesh-rows, Asked, asked-start, asked-on, asked-stop, asked-end}
+use Rattle.shape.proofs.laws.Used.{Following, following-none, following-on, following-stop, following-all}
 use Rattle.shape.proofs.family.children_follow.Statement.{statement}
 use Rattle.shape.proofs.family.children_follow.Tie as tie
 
 abbrev Inv-loop : tie.InvT-loop
-Inv-loop records rows c i t n r₀ r = Asked (Child (bare records rows c) i) t r
+Inv-loop records rows c i t flags₀ n r₀ flags r = Following records rows c i t r flags₀ flags
 
 abbrev μ-loop : tie.MeasureT-loop
-μ-loop records rows c i t n r₀ r = n - r
+μ-loop records rows c i t flags₀ n r₀ flags r = n - r
 
 loop-holds : tie.Need-loop-holds Inv-loop μ-loop
-loop-holds c = asked-start _ _
+loop-holds c = search (following-none, needs)
 
 child-follows-requires : tie.Need-child-follows-requires Inv-loop μ-loop
-child-follows-requires c κs = (c .before .before .before .before .pre, omega arith)
+child-follows-requires c κs = search needs
+
+same-length : tie.Need-same-length Inv-loop μ-loop
+same-length c = search needs
 
 returns : tie.Need-returns Inv-loop μ-loop
-returns c = decides-false (asked-stop (c .before .before .before .loop .inv) (rw (mesh-rows _ _ _) (omega arith)) (refused (c .before .child-follows .ensures) (c .if1 .taken)))
+returns c = search (following-stop, needs)
+
+middle-requires : tie.Need-middle-requires Inv-loop μ-loop
+middle-requires c κs = search needs
+
+put-requires : tie.Need-put-requires Inv-loop μ-loop
+put-requires c κs = search needs
 
 add-r : tie.Need-add-r Inv-loop μ-loop
 add-r c = search needs
@@ -29,10 +35,13 @@ loop-less : tie.Need-loop-less Inv-loop μ-loop
 loop-less c = search needs
 
 loop-again : tie.Need-loop-again Inv-loop μ-loop
-loop-again c = asked-on (c .before .before .before .loop .inv) (granted (c .before .child-follows .ensures) (c .if1 .left))
+loop-again c = following-on (c .before .before .before .before .before .before .before .before .loop .inv) (c .before .before .before .before .before .before .before .loop-test .taken) (c .before .before .before .before .before .before .child-follows .ensures) (c .before .before .before .before .before .if1 .left) (c .before .before .before .middle .ensures) (c .before .before .put .ensures)
+
+same-length-2 : tie.Need-same-length-2 Inv-loop μ-loop
+same-length-2 c = search needs
 
 returns-2 : tie.Need-returns-2 Inv-loop μ-loop
-returns-2 c = decides-true (asked-end (c .before .loop .inv) (rw (mesh-rows _ _ _) (omega arith)))
+returns-2 c = search (following-all, needs)
 
 pub children-follow-spec : {M : Type 1} → statement M
 children-follow-spec =
@@ -42,8 +51,12 @@ children-follow-spec =
     μ-loop
     loop-holds
     child-follows-requires
+    same-length
     returns
+    middle-requires
+    put-requires
     add-r
     loop-less
     loop-again
+    same-length-2
     returns-2)

@@ -1,8 +1,7 @@
--- `soundness::roots::put` meets its contract. Assumes nothing.
 use borrow.Author.Needs.{needs}
 use lib.Seq.{set-out}
-use Rattle.soundness.proofs.roots.put.Statement.{statement}
-use Rattle.soundness.proofs.roots.put.Tie as tie
+use Rattle.chain.proofs.put.Statement.{statement}
+use Rattle.chain.proofs.put.Tie as tie
 
 mul-table : tie.Need-mul-table
 mul-table c = search needs
