@@ -6,7 +6,7 @@ use lib.ListN.{length}
 use lib.Ieee.{Float}
 use Rattle.tables.specs.declared.layout.Counts.{Counts}
 use Rattle.tables.specs.Mesh.{Lent}
-use Rattle.opening.specs.declared.answer.Verdict.the-variants.{Passed}
+use Rattle.intake.specs.declared.answer.Verdict.the-variants.{Passed}
 use Rattle.sound.specs.Sound.{Sound}
 use Rattle.sound.specs.Check.{lent}
 use Rattle.frame.specs.Marks.{onMarks}

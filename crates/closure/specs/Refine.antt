@@ -9,8 +9,8 @@ use Rattle.tables.specs.declared.layout.Counts.{Counts}
 use Rattle.tables.specs.Layout.{roomOf}
 use Rattle.tables.specs.Mesh.{Lent, Mesh, meshOf, laid}
 use Rattle.tables.specs.Report.{Report, refusal, done}
-use Rattle.opening.specs.declared.answer.Found.the-variants.{At, Nowhere}
-use Rattle.opening.specs.Search.{first}
+use Rattle.intake.specs.declared.answer.Found.the-variants.{At, Nowhere}
+use Rattle.intake.specs.Search.{first}
 use Rattle.sound.specs.Sound.{Sound}
 use Rattle.run.specs.Skeleton.{Skeleton, skeleton, meshed}
 use Rattle.run.specs.Run.{RunAll}

@@ -10,7 +10,7 @@ use Rattle.split.specs.Split.{Distinct}
 use Rattle.split.specs.Row.{cornersOf, edgeOf}
 use Rattle.tables.specs.declared.layout.Counts.{Counts}
 use Rattle.tables.specs.Layout.{rowWidth, recordWidth, noRecord, recordAt, rowAt}
-use Rattle.opening.specs.declared.answer.Found.the-variants.{Nowhere}
+use Rattle.intake.specs.declared.answer.Found.the-variants.{Nowhere}
 use Rattle.run.specs.Skeleton.{Skeleton}
 use Rattle.run.specs.Ready.{Ready, Open, Reach, rankIn}
 use Rattle.run.specs.Run.{holders, blocking, Run, Stuck}

@@ -1,7 +1,7 @@
 // The leaf that is refined first: of the leaves that the scratch table lists, the first whose own edge is another one (document 01, "Closure").
 use crate::index::SCRATCH;
 use chain::wide;
-use opening::answer::Found;
+use intake::answer::Found;
 use split::row::Ends;
 ghost use mathlib.Core.Path.{_≡_};
 ghost use mathlib.Core.Bool.{not};

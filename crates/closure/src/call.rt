@@ -6,7 +6,7 @@ use crate::step::Step;
 use frame::marks::judge;
 use frame::points::fill;
 use frame::undo::undo;
-use opening::answer::Verdict;
+use intake::answer::Verdict;
 use tables::layout::Counts;
 ghost use Prim.Native.Nat.{_≤_};
 ghost use Rattle.sound.specs.Check.{lent};

@@ -3,7 +3,7 @@ use crate::cutting::cut_patch;
 use crate::looking::look;
 use crate::step::Patch;
 use crate::step::Step;
-use opening::answer::Found;
+use intake::answer::Found;
 use tables::layout::Counts;
 ghost use Rattle.closure.specs.Refining.{Sure, Refines, Clears};
 

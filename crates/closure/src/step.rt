@@ -1,5 +1,5 @@
 // What the parts of closure answer.
-use opening::answer::Found;
+use intake::answer::Found;
 use tables::layout::Counts;
 
 // Refining a leaf: the counts afterwards, or those at which there was no room for the next patch.

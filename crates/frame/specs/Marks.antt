@@ -4,10 +4,10 @@ use mathlib.Core.List.{List}
 use Prim.Native.Nat.{ℕ}
 use lib.Dec.{eqb, leb}
 use lib.ListN.{length, getD}
-use Rattle.opening.specs.declared.answer.Verdict.{Verdict}
-use Rattle.opening.specs.declared.answer.Verdict.the-variants.{Passed}
-use Rattle.opening.specs.Search.{first, any}
-use Rattle.opening.specs.Opening.{at, when}
+use Rattle.intake.specs.declared.answer.Verdict.{Verdict}
+use Rattle.intake.specs.declared.answer.Verdict.the-variants.{Passed}
+use Rattle.intake.specs.Search.{first, any}
+use Rattle.intake.specs.Verdict.{at, when}
 use Rattle.tables.specs.Layout.{rowAt}
 
 -- row r is a leaf of depth 60

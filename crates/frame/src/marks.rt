@@ -1,12 +1,12 @@
 // Numbers 10 and 11 as far as the marks alone tell: a mark that names no row, and one that names a leaf of depth 60 (document 01, "What comes back").
 use chain::wide;
-use opening::answer::Found;
-use opening::answer::Verdict;
+use intake::answer::Found;
+use intake::answer::Verdict;
 ghost use mathlib.Core.Path.{_≡_};
 ghost use Prim.Native.Nat.{_<_};
 ghost use lib.Dec.{leb};
 ghost use lib.ListN.{length, getD};
-ghost use Rattle.opening.specs.Search.{first, any};
+ghost use Rattle.intake.specs.Search.{first, any};
 ghost use Rattle.frame.specs.Marks.{deepAt, onMarks};
 
 fn is_missing(marks: &[u32], n: usize, j: usize) -> bool

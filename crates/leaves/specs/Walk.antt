@@ -9,7 +9,7 @@ use lib.Seq.{sets}
 use Rattle.split.specs.declared.row.Row.{Row}
 use Rattle.tables.specs.Layout.{rowWidth, rowAt, noRow}
 use Rattle.tables.specs.Mesh.{upTo}
-use Rattle.opening.specs.Search.{count}
+use Rattle.intake.specs.Search.{count}
 use Rattle.leaves.specs.Listing.{levelOf, levelIn, listingFrom, treeOf, treesBelow, listing}
 
 -- the first n rows of a table

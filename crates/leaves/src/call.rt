@@ -5,7 +5,7 @@ ghost use mathlib.Core.Path.{_≡_};
 ghost use mathlib.Core.Bool.{cond};
 ghost use Prim.Native.Nat.{_≤_};
 ghost use lib.ListN.{length, replicate};
-ghost use Rattle.opening.specs.Search.{count};
+ghost use Rattle.intake.specs.Search.{count};
 ghost use Rattle.leaves.specs.Lists.{Accepts, OnRoom};
 ghost use Rattle.leaves.specs.Walk.{rowsOf, leafAt, Listable, Roomy};
 

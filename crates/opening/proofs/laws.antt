@@ -1,7 +1,3 @@
-pub mod Search
-pub mod Tests
-pub mod Loop
-pub mod Usable
 pub mod Passed
 pub mod Verdicts
 pub mod Counting

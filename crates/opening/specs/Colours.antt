@@ -4,8 +4,8 @@ use mathlib.Core.List.{List, [], _∷_, _++_}
 use Prim.Native.Nat.{ℕ, zero, suc, _/_, max}
 use lib.Dec.{eqb, ltb}
 use lib.ListN.{length, getD}
-use Rattle.opening.specs.Search.{any, free}
-use Rattle.opening.specs.Causes.{vertex, has}
+use Rattle.intake.specs.Search.{any, free}
+use Rattle.intake.specs.Causes.{vertex, has}
 
 -- the vertex at place q of element j is smaller than v and has the colour c; `painted` has the colours of the smaller vertices
 abbrev pub smaller : List ℕ → List ℕ → ℕ → ℕ → ℕ → ℕ → Bool

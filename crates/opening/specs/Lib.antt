@@ -1,5 +1,3 @@
-pub mod Search
-pub mod Causes
 pub mod Colours
 pub mod Order
 pub mod Opening

@@ -1,6 +1,5 @@
 -- Opening (01, "Opening" and "What comes back"): tests 1 to 8 in that order, each over the whole input before the next, the smallest place; or the opened mesh.
 use mathlib.Core.Path.{_≡_}
-use mathlib.Core.Bool.{Bool, true, false, _||_}
 use mathlib.Core.List.{List}
 use Prim.Native.Nat.{ℕ, _/_}
 use lib.ListN.{length, getD}
@@ -10,39 +9,19 @@ use Rattle.tables.specs.declared.record.Record.{Record}
 use Rattle.tables.specs.Layout.{pointAt}
 use Rattle.tables.specs.Mesh.{Lent, Mesh, upTo, laid}
 use Rattle.tables.specs.Report.{Report, refusal, done}
-use Rattle.opening.specs.declared.answer.Found.{Found}
-use Rattle.opening.specs.declared.answer.Found.the-variants.{At, Nowhere}
-use Rattle.opening.specs.declared.answer.Verdict.{Verdict}
-use Rattle.opening.specs.declared.answer.Verdict.the-variants as verdict
+use Rattle.intake.specs.declared.answer.Verdict.{Verdict}
+use Rattle.intake.specs.declared.answer.Verdict.the-variants as verdict
 use Rattle.opening.specs.declared.answer.Opened.{Opened}
 use Rattle.opening.specs.declared.answer.Opened.the-variants as opened
-use Rattle.opening.specs.Search.{first}
-use Rattle.opening.specs.Causes.{wrongInput, wrongLent, noRoom, unusable, missing, double, same, third}
+use Rattle.intake.specs.Search.{first}
+use Rattle.intake.specs.Causes.{same, third}
+use Rattle.intake.specs.Verdict.{at, plain, fitting}
 use Rattle.opening.specs.Colours.{colours, garish, largest}
 use Rattle.opening.specs.Order.{rootOf}
-
--- refused by this number where the cause is present, else what comes next
-abbrev pub when : Bool → ℕ → Verdict → Verdict
-when true n next = verdict.Refused n 0
-when false n next = next
-
--- refused by this number at the smallest place, else what comes next
-abbrev pub at : Found → ℕ → Verdict → Verdict
-at (At p) n next = verdict.Refused n p
-at Nowhere n next = next
 
 -- tests 6 to 8, through the index
 unfoldable pub late : List ℕ → ℕ → Verdict
 late E vertices = at (first (same E) (length E / 4)) 6 (at (first (third E) (length E / 4)) 7 (at (first (garish E) vertices) 8 verdict.Passed))
-
--- tests 3 to 5, on coordinates and vertex numbers, and then the rest
-unfoldable pub plain : List Float → List ℕ → Verdict → Verdict
-plain F E next = at (first (unusable F) (length F / 3)) 3 (at (first (missing (length F / 3) E) (length E / 4)) 4 (at (first (double E) (length E / 4)) 5 next))
-
--- tests 1 and 2, on lengths alone, and then the rest
-unfoldable pub fitting : ℕ → ℕ → ℕ → ℕ → ℕ → Verdict → Verdict
-fitting coordinates elements points records rows next =
-    when (wrongInput coordinates elements || wrongLent points records rows) 1 (when (noRoom (coordinates / 3) (elements / 4) points records rows) 2 next)
 
 -- all tests in their order
 unfoldable pub judged : List Float → List ℕ → ℕ → ℕ → ℕ → Verdict

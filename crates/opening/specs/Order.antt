@@ -6,7 +6,7 @@ use lib.Dec.{ltb}
 use Rattle.split.specs.declared.row.Row.{Row}
 use Rattle.split.specs.Split.{three, Corners, corners}
 use Rattle.forest.specs.Start.{arranged}
-use Rattle.opening.specs.Causes.{vertex}
+use Rattle.intake.specs.Causes.{vertex}
 
 -- two places brought into the order of their colours
 abbrev pub lower : (ℕ → ℕ) → ℕ → ℕ → ℕ

@@ -8,15 +8,16 @@ use lib.Dec.{eqb, ltb, leb}
 use lib.ListN.{length, getD, set, replicate}
 use lib.Ieee.{Float}
 use Rattle.chain.specs.Chain.{Indexed}
-use Rattle.opening.specs.declared.answer.Found.{Found}
-use Rattle.opening.specs.declared.answer.Found.the-variants.{Nowhere}
-use Rattle.opening.specs.declared.answer.Verdict.{Verdict}
-use Rattle.opening.specs.declared.answer.Verdict.the-variants.{Passed}
+use Rattle.intake.specs.declared.answer.Found.{Found}
+use Rattle.intake.specs.declared.answer.Found.the-variants.{Nowhere}
+use Rattle.intake.specs.declared.answer.Verdict.{Verdict}
+use Rattle.intake.specs.declared.answer.Verdict.the-variants.{Passed}
 use Rattle.opening.specs.declared.faces.Seen.{Seen}
 use Rattle.opening.specs.declared.faces.Met.{Met}
-use Rattle.opening.specs.Opening.{at, late, judged}
-use Rattle.opening.specs.Search.{first, count}
-use Rattle.opening.specs.Causes.{vertex, has, before, same, third}
+use Rattle.intake.specs.Verdict.{at}
+use Rattle.opening.specs.Opening.{late, judged}
+use Rattle.intake.specs.Search.{first, count}
+use Rattle.intake.specs.Causes.{vertex, has, before, same, third}
 use Rattle.opening.specs.Colours.{taken, colours, colourOf, garish}
 
 abbrev pub linksAt : ℕ

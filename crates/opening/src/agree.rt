@@ -1,5 +1,5 @@
 // Whether tables hold what opening would give: the same colours and, but for the first child, the same rows.
-use crate::answer::Verdict;
+use intake::answer::Verdict;
 use crate::colours::PAINT;
 use crate::colours::largest_colour;
 use crate::judge::judge;

@@ -1,5 +1,5 @@
 // Number 8 and the colours of Algorithm 2, in number order, through the index.
-use crate::answer::Found;
+use intake::answer::Found;
 use crate::elements::vertex_at;
 use crate::index::LINKS;
 use chain::wide;
@@ -7,7 +7,7 @@ ghost use mathlib.Core.Path.{_≡_};
 ghost use Prim.Native.Nat.{ℕ, _*_, _/_, _<_, _≤_, _+_, min};
 ghost use lib.ListN.{length, getD};
 ghost use Rattle.opening.specs.Colours.{colourOf, largest, colours};
-ghost use Rattle.opening.specs.Search.{first};
+ghost use Rattle.intake.specs.Search.{first};
 ghost use Rattle.opening.specs.Scratch.{paintLength, Plain, Ready, Clear, Painted, Flags, Marks, marked, markedAll, unmarked, Coloured};
 
 // The table of colours, one for each vertex.

@@ -5,7 +5,7 @@ use chain::wide;
 ghost use mathlib.Core.Path.{_≡_};
 ghost use Prim.Native.Nat.{_*_, _/_, _<_, _+_};
 ghost use lib.ListN.{length};
-ghost use Rattle.opening.specs.Causes.{has};
+ghost use Rattle.intake.specs.Causes.{has};
 ghost use Rattle.opening.specs.Scratch.{Plain, Filled, Chosen, Other, Held, Few, noted, Counted, crowd, Around, Meets};
 
 // Of the elements that hold a vertex: how many hold all of a, b and c, and how many hold two of them.

@@ -1,73 +1,19 @@
 // The tests in their order.
-use crate::answer::Found;
-use crate::answer::Verdict;
+use intake::answer::Found;
+use intake::answer::Verdict;
 use crate::colours::colour_all;
-use crate::coordinates::first_unusable;
-use crate::elements::first_double;
-use crate::elements::first_missing;
 use crate::faces::meets;
 use crate::index::fill;
-use crate::lengths::input_wrong;
-use crate::lengths::lent_wrong;
-use crate::lengths::too_many;
+use intake::judge_lengths;
+use intake::judge_numbers;
+use intake::verdict_at;
 ghost use mathlib.Core.Path.{_≡_};
 ghost use Prim.Native.Nat.{_/_};
 ghost use lib.ListN.{length};
-ghost use Rattle.opening.specs.declared.answer.Verdict.the-variants.{Passed};
-ghost use Rattle.opening.specs.Search.{orAt};
-ghost use Rattle.opening.specs.Opening.{at, fitting, plain};
+ghost use Rattle.intake.specs.declared.answer.Verdict.the-variants.{Passed};
+ghost use Rattle.intake.specs.Search.{orAt};
+ghost use Rattle.intake.specs.Verdict.{at, fitting, plain};
 ghost use Rattle.opening.specs.Scratch.{Plain, Filled, Clear, Sifted, Judged, Settled};
-
-// Refused by this number at the place found, else the verdict of what comes next.
-fn verdict_at(found: Found, number: u32, next: Verdict) -> Verdict
-    ensures { λ r. ⌜ r ≡ at found number next ⌝ }
-{
-    match found {
-        Found::At(place) => Verdict::Refused { number, place },
-        Found::Nowhere => next,
-    }
-}
-
-fn judge_lengths(
-    coordinates: usize,
-    elements: usize,
-    points: usize,
-    records: usize,
-    rows: usize,
-) -> Verdict
-    ensures { λ r. ⌜ r ≡ fitting coordinates elements points records rows Passed ⌝ }
-{
-    if input_wrong(coordinates, elements) {
-        return Verdict::Refused {
-            number: 1,
-            place: 0,
-        };
-    }
-    if lent_wrong(points, records, rows) {
-        return Verdict::Refused {
-            number: 1,
-            place: 0,
-        };
-    }
-    if too_many(coordinates / 3, elements / 4, points, records, rows) {
-        return Verdict::Refused {
-            number: 2,
-            place: 0,
-        };
-    }
-    Verdict::Passed
-}
-
-fn judge_numbers(coordinates: &[f64], elements: &[u32]) -> Verdict
-    ensures { λ r. ⌜ r ≡ plain (now (coordinates .entry)) (now (elements .entry)) Passed ⌝ }
-{
-    let unusable = first_unusable(coordinates);
-    let missing = first_missing(elements, coordinates.len() / 3);
-    let double = first_double(elements);
-    let last = verdict_at(double, 5, Verdict::Passed);
-    let then = verdict_at(missing, 4, last);
-    verdict_at(unusable, 3, then)
-}
 
 // What was found, or else place k where the test holds there.
 fn or_at(found: Found, met: bool, k: usize) -> Found

@@ -1,18 +1,16 @@
 // Opening a mesh: tests 1 to 8, the colours of Algorithm 2, the order of Definition 2, and the opened tables.
 use crate::answer::Opened;
-use crate::answer::Verdict;
+use intake::answer::Verdict;
 use crate::colours::PAINT;
 use tables::layout::Counts;
 
 pub mod agree;
 pub mod answer;
 mod colours;
-mod coordinates;
 mod elements;
 mod faces;
 mod index;
 mod judge;
-mod lengths;
 mod order;
 mod store;
 

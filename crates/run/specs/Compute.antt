@@ -4,7 +4,7 @@ use mathlib.Core.List.{List, [], _∷_}
 use mathlib.Core.Option.{Option, none, some}
 use Prim.Native.Nat.{ℕ, zero, suc}
 use lib.Dec.{eqb}
-use Rattle.opening.specs.declared.answer.Found.the-variants.{At, Nowhere}
+use Rattle.intake.specs.declared.answer.Found.the-variants.{At, Nowhere}
 use Rattle.run.specs.Skeleton.{Skeleton, rowIn}
 use Rattle.run.specs.Run.{blocking, splitPatch}
 

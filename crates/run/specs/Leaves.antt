@@ -10,7 +10,7 @@ use lib.Dec.{eqb}
 use Rattle.split.specs.Split.{Side, left, right}
 use Rattle.tables.specs.Mesh.{Mesh}
 use Rattle.forest.specs.Element.{Element, Element-discrete}
-use Rattle.opening.specs.Search.{any}
+use Rattle.intake.specs.Search.{any}
 use Rattle.sound.specs.Sound.{rows, rowOf}
 use Rattle.sound.specs.Forest.{elementOf}
 

@@ -9,7 +9,7 @@ use Rattle.tables.specs.Layout.{noRecord}
 use Rattle.tables.specs.Mesh.{Mesh}
 use Rattle.forest.specs.Element.{shape}
 use Rattle.forest.specs.Generation.{rank, edgeGen}
-use Rattle.opening.specs.Search.{count}
+use Rattle.intake.specs.Search.{count}
 use Rattle.sound.specs.Sound.{Grown, Conforming}
 use Rattle.sound.specs.Forest.{forestOf, colourIn, largestIn, elementOf}
 use Rattle.run.specs.Skeleton.{Skeleton, rowIn, meshed}

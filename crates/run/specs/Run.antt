@@ -10,8 +10,8 @@ use Rattle.split.specs.declared.row.Ends.{Ends}
 use Rattle.split.specs.Row.{edgeOf, firstOf, secondOf}
 use Rattle.tables.specs.declared.layout.Counts.{Counts}
 use Rattle.tables.specs.declared.record.Record.{Record}
-use Rattle.opening.specs.declared.answer.Found.{Found}
-use Rattle.opening.specs.declared.answer.Found.the-variants.{At, Nowhere}
+use Rattle.intake.specs.declared.answer.Found.{Found}
+use Rattle.intake.specs.declared.answer.Found.the-variants.{At, Nowhere}
 use Rattle.run.specs.Skeleton.{Skeleton, rowIn}
 
 -- ---- the patch of an edge

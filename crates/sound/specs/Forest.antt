@@ -12,7 +12,7 @@ use Rattle.tables.specs.Mesh.{Mesh}
 use Rattle.tables.specs.declared.record.Record.{Record}
 use Rattle.forest.specs.Element.{Name, init, mid, Forest, Element, el}
 use Rattle.forest.specs.Generation.{Gen, gen}
-use Rattle.opening.specs.Search.{count}
+use Rattle.intake.specs.Search.{count}
 use Rattle.opening.specs.Colours.{largest}
 use Rattle.sound.specs.Sound.{recordOf, rowOf, rows}
 

@@ -14,7 +14,7 @@ use Rattle.tables.specs.declared.layout.Counts.{Counts}
 use Rattle.tables.specs.declared.record.Record.{Record}
 use Rattle.tables.specs.Layout.{noPoint, noRecord, noRow, pointWidth, recordWidth, rowWidth, pointCells, roomOf}
 use Rattle.tables.specs.Mesh.{Lent, Mesh, meshOf, flat, Unused}
-use Rattle.opening.specs.declared.answer.Verdict.the-variants.{Passed}
+use Rattle.intake.specs.declared.answer.Verdict.the-variants.{Passed}
 use Rattle.opening.specs.Opening.{judged, openedMesh}
 
 -- ---- what a mesh has at a number

@@ -16,10 +16,10 @@ use Rattle.tables.specs.declared.record.Record.{Record}
 use Rattle.tables.specs.Layout.{rowWidth, recordWidth, pointWidth, noRow, noRecord, noFloat, pointCells, recordCells, rowCells, pointAt, recordAt, rowAt, roomOf}
 use Rattle.tables.specs.Mesh.{Lent, Mesh, meshOf, laid, upTo, flat, padded}
 use Rattle.tables.proofs.laws.View.{length-up-to, up-to-at}
-use Rattle.opening.specs.declared.answer.Found.the-variants.{At, Nowhere}
-use Rattle.opening.specs.declared.answer.Verdict.{Verdict}
-use Rattle.opening.specs.declared.answer.Verdict.the-variants as verdict
-use Rattle.opening.specs.Search.{first}
+use Rattle.intake.specs.declared.answer.Found.the-variants.{At, Nowhere}
+use Rattle.intake.specs.declared.answer.Verdict.{Verdict}
+use Rattle.intake.specs.declared.answer.Verdict.the-variants as verdict
+use Rattle.intake.specs.Search.{first}
 use Rattle.sound.specs.Sound.{Sound}
 use Rattle.sound.specs.Check.{Decides, lent}
 use Rattle.soundness.specs.Check.{Cleared}

@@ -9,7 +9,7 @@ use Rattle.split.specs.Row.{cornersOf}
 use Rattle.tables.specs.declared.layout.Counts.{Counts}
 use Rattle.tables.specs.Layout.{noRow, recordAt, rowAt}
 use Rattle.tables.proofs.laws.View.{length-up-to, up-to-at}
-use Rattle.opening.specs.declared.answer.Found.the-variants.{At, Nowhere}
+use Rattle.intake.specs.declared.answer.Found.the-variants.{At, Nowhere}
 use Rattle.sound.proofs.laws.Placed.{row-distinct}
 use Rattle.run.specs.Skeleton.{Skeleton}
 use Rattle.run.specs.Ready.{Ready, Open, Reach, rankIn}

@@ -8,8 +8,8 @@ use lib.ListN.{length}
 use Rattle.tables.specs.declared.layout.Counts.{Counts}
 use Rattle.tables.specs.Layout.{recordCells, rowCells, recordAt, rowAt, roomOf}
 use Rattle.tables.specs.Mesh.{Lent, meshOf, laid, upTo, flat, padded}
-use Rattle.opening.specs.declared.answer.Found.the-variants.{Nowhere}
-use Rattle.opening.specs.Search.{first}
+use Rattle.intake.specs.declared.answer.Found.the-variants.{Nowhere}
+use Rattle.intake.specs.Search.{first}
 use Rattle.sound.specs.Sound.{Sound}
 use Rattle.run.specs.Skeleton.{Skeleton, skeleton}
 use Rattle.run.specs.Run.{RunAll, Within}

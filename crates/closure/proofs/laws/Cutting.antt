@@ -16,7 +16,7 @@ use Rattle.tables.specs.declared.layout.Counts.{Counts}
 use Rattle.tables.specs.Layout.{rowWidth, recordWidth, noRow, noRecord, recordAt, rowAt, putRecord}
 use Rattle.tables.proofs.laws.Rows.{length-put-record}
 use Rattle.tables.proofs.laws.View.{length-up-to, up-to-at}
-use Rattle.opening.specs.declared.answer.Found.the-variants.{Nowhere}
+use Rattle.intake.specs.declared.answer.Found.the-variants.{Nowhere}
 use Rattle.run.specs.Skeleton.{Skeleton, rowIn}
 use Rattle.run.specs.Ready.{Open}
 use Rattle.run.specs.Run.{holders, blocking, cutAll, cut, recordFor, splitPatch, Run, clear, Over, Stuck, full}

@@ -13,13 +13,13 @@ use Rattle.tables.specs.declared.layout.Counts.{Counts}
 use Rattle.tables.specs.Layout.{noRow, rowAt}
 use Rattle.tables.specs.Mesh.{meshOf}
 use Rattle.tables.proofs.laws.View.{length-up-to, up-to-at}
-use Rattle.opening.specs.declared.answer.Found.{Found}
-use Rattle.opening.specs.declared.answer.Found.the-variants.{At, Nowhere}
-use Rattle.opening.specs.declared.answer.Verdict.{Verdict}
-use Rattle.opening.specs.declared.answer.Verdict.the-variants.{Passed, Refused}
-use Rattle.opening.specs.Search.{first, any}
-use Rattle.opening.specs.Opening.{at, when}
-use Rattle.opening.proofs.laws.Search.{first-none, any-has, any-some}
+use Rattle.intake.specs.declared.answer.Found.{Found}
+use Rattle.intake.specs.declared.answer.Found.the-variants.{At, Nowhere}
+use Rattle.intake.specs.declared.answer.Verdict.{Verdict}
+use Rattle.intake.specs.declared.answer.Verdict.the-variants.{Passed, Refused}
+use Rattle.intake.specs.Search.{first, any}
+use Rattle.intake.specs.Verdict.{at, when}
+use Rattle.intake.proofs.laws.Search.{first-none, any-has, any-some}
 use Rattle.sound.specs.Sound.{Sound}
 use Rattle.sound.proofs.laws.Searches.{and-both}
 use Rattle.sound.specs.Check.{lent}

@@ -13,7 +13,7 @@ use Rattle.split.proofs.laws.Tags.{tag-range}
 use Rattle.split.proofs.laws.Children.{far-at}
 use Rattle.tables.specs.Layout.{noRow, rowAt}
 use Rattle.tables.proofs.laws.View.{up-to-at}
-use Rattle.opening.specs.declared.answer.Found.{Found}
+use Rattle.intake.specs.declared.answer.Found.{Found}
 use Rattle.run.specs.Run.{holders, otherIn, blocking}
 use Rattle.run.proofs.laws.Edge.{own-both}
 use Rattle.closure.specs.State.{rowsOf, linksAt, patchIn, State, EndOf, small, large, Gatherable, Gathers, Listed}

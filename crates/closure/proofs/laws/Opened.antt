@@ -10,8 +10,8 @@ use Rattle.tables.specs.declared.layout.Counts.{Counts}
 use Rattle.tables.specs.Layout.{noRow, rowAt}
 use Rattle.tables.specs.Mesh.{Lent, Mesh, meshOf, laid}
 use Rattle.tables.proofs.laws.View.{Within, length-up-to, up-to-at, mesh-laid}
-use Rattle.opening.specs.declared.answer.Verdict.{Verdict}
-use Rattle.opening.specs.declared.answer.Verdict.the-variants as verdict
+use Rattle.intake.specs.declared.answer.Verdict.{Verdict}
+use Rattle.intake.specs.declared.answer.Verdict.the-variants as verdict
 use Rattle.opening.specs.declared.answer.Opened.the-variants as answer
 use Rattle.opening.specs.Colours.{colours, largest}
 use Rattle.opening.specs.Order.{rootOf}

@@ -8,8 +8,8 @@ use Rattle.split.proofs.laws.Places.{less, equal, more, against}
 use Rattle.tables.specs.declared.layout.Counts.{Counts}
 use Rattle.tables.specs.Mesh.{Lent, Mesh, meshOf, laid}
 use Rattle.tables.specs.Report.{Report}
-use Rattle.opening.specs.declared.answer.Found.{Found}
-use Rattle.opening.specs.declared.answer.Found.the-variants.{At, Nowhere}
+use Rattle.intake.specs.declared.answer.Found.{Found}
+use Rattle.intake.specs.declared.answer.Found.the-variants.{At, Nowhere}
 use Rattle.sound.specs.Sound.{Parted, Sound}
 use Rattle.run.specs.Skeleton.{Skeleton, meshed}
 use Rattle.run.proofs.laws.Unique.{run-all-unique}

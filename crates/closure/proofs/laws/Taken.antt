@@ -8,8 +8,8 @@ use Rattle.tables.specs.declared.layout.Counts.{Counts}
 use Rattle.tables.specs.Layout.{recordAt, rowAt}
 use Rattle.tables.specs.Mesh.{Lent, meshOf}
 use Rattle.tables.proofs.laws.View as view
-use Rattle.opening.specs.declared.answer.Found.the-variants.{Nowhere}
-use Rattle.opening.specs.Search.{first}
+use Rattle.intake.specs.declared.answer.Found.the-variants.{Nowhere}
+use Rattle.intake.specs.Search.{first}
 use Rattle.sound.specs.Sound.{vertices, rows, Sound}
 use Rattle.run.specs.Skeleton.{skeleton, meshed}
 use Rattle.run.specs.Ready.{Ready}

@@ -7,7 +7,7 @@ use lib.ListN.{length}
 use Rattle.split.specs.declared.point.Point.{Point}
 use Rattle.split.proofs.laws.Places.{le-or-lt}
 use Rattle.tables.specs.declared.layout.Counts.{Counts}
-use Rattle.opening.specs.declared.answer.Found.the-variants.{At, Nowhere}
+use Rattle.intake.specs.declared.answer.Found.the-variants.{At, Nowhere}
 use Rattle.run.specs.Skeleton.{Skeleton, rowIn, meshed}
 use Rattle.run.specs.Ready.{Ready}
 use Rattle.run.specs.Run.{blocking, splitPatch, Run, clear, blocked, RunAll, done, passed, refined, Within, Over, vertices, rows, Stuck, full, below, after, StuckAll, here}

@@ -10,13 +10,13 @@ use lib.Dec.{eqb, leb}
 use lib.ListN.{length, getD}
 use Rattle.split.specs.declared.row.Row.{Row}
 use Rattle.tables.specs.Layout.{rowAt}
-use Rattle.opening.specs.declared.answer.Found.{Found}
-use Rattle.opening.specs.declared.answer.Found.the-variants.{At, Nowhere}
-use Rattle.opening.specs.declared.answer.Verdict.{Verdict}
-use Rattle.opening.specs.declared.answer.Verdict.the-variants.{Passed, Refused}
-use Rattle.opening.specs.Search.{first, any}
-use Rattle.opening.specs.Opening.{at, when}
-use Rattle.opening.proofs.laws.Search.{any-has, any-none}
+use Rattle.intake.specs.declared.answer.Found.{Found}
+use Rattle.intake.specs.declared.answer.Found.the-variants.{At, Nowhere}
+use Rattle.intake.specs.declared.answer.Verdict.{Verdict}
+use Rattle.intake.specs.declared.answer.Verdict.the-variants.{Passed, Refused}
+use Rattle.intake.specs.Search.{first, any}
+use Rattle.intake.specs.Verdict.{at, when}
+use Rattle.intake.proofs.laws.Search.{any-has, any-none}
 use Rattle.frame.specs.Marks.{deepAt, onMarks}
 
 -- ---- one mark

@@ -8,7 +8,7 @@ use native.Mathlib.Omega.{arith}
 use borrow.Author.Tests.{eq-eqb, ne-eqb}
 use Rattle.split.specs.declared.row.Row.{Row}
 use Rattle.tables.specs.Layout.{rowAt}
-use Rattle.opening.specs.Search.{count}
+use Rattle.intake.specs.Search.{count}
 use Rattle.opening.proofs.laws.Counting.{count-below}
 use Rattle.leaves.specs.Walk.{leafAt}
 

@@ -9,7 +9,7 @@ use lib.Seq.{sets, sets-eq, set-out}
 use Rattle.tables.specs.Mesh.{padded}
 use Rattle.tables.specs.Report.{listed}
 use Rattle.tables.proofs.laws.Parts.{drop-replicate}
-use Rattle.opening.specs.Search.{count}
+use Rattle.intake.specs.Search.{count}
 use Rattle.opening.proofs.laws.Counting.{count-below}
 use Rattle.leaves.specs.declared.answer.Listed.{Listed}
 use Rattle.leaves.specs.declared.answer.Listed.the-variants.{Done, Refused}

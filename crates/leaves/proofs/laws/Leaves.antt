@@ -16,7 +16,7 @@ use Rattle.tables.specs.Mesh.{Mesh}
 use Rattle.forest.specs.Element.{Element, el}
 use Rattle.forest.specs.Shallow.{rootOf}
 use Rattle.forest.specs.LeafSum.{leavesFrom}
-use Rattle.opening.specs.Search.{count}
+use Rattle.intake.specs.Search.{count}
 use Rattle.sound.specs.Sound.{rows, rowOf, Grown}
 use Rattle.sound.specs.Forest.{elementOf, splitsIn}
 use Rattle.sound.proofs.laws.Afresh.{root-depth}

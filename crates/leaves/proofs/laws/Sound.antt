@@ -13,7 +13,7 @@ use Rattle.tables.specs.declared.layout.Counts.{Counts}
 use Rattle.tables.specs.Layout.{rowAt, noRow}
 use Rattle.tables.specs.Mesh.{Lent, Mesh, meshOf}
 use Rattle.tables.proofs.laws.View.{length-up-to, up-to-at}
-use Rattle.opening.specs.Search.{count}
+use Rattle.intake.specs.Search.{count}
 use Rattle.opening.proofs.laws.Counting.{count-same}
 use Rattle.sound.specs.Sound.{rows, rowOf, Sound}
 use Rattle.sound.specs.Forest.{splitsIn}

@@ -14,9 +14,9 @@ use lib.Ieee.{Float}
 use Rattle.split.specs.declared.row.Row.{Row}
 use Rattle.tables.specs.declared.record.Record.{Record}
 use Rattle.tables.specs.Layout.{recordAt, rowAt}
-use Rattle.opening.specs.declared.answer.Verdict.{Verdict}
-use Rattle.opening.specs.declared.answer.Verdict.the-variants.{Refused, Passed}
-use Rattle.opening.specs.Causes.{wrongInput}
+use Rattle.intake.specs.declared.answer.Verdict.{Verdict}
+use Rattle.intake.specs.declared.answer.Verdict.the-variants.{Refused, Passed}
+use Rattle.intake.specs.Causes.{wrongInput}
 use Rattle.opening.specs.Colours.{colours, largest}
 use Rattle.opening.specs.Order.{rootOf}
 use Rattle.opening.specs.Opening.{initial, judged}

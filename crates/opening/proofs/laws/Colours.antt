@@ -10,10 +10,10 @@ use borrow.Author.Tests.{ltb-true, eqb-true, lt-ltb, eq-eqb}
 use lib.Dec.{eqb, ltb}
 use lib.ListN.{length, getD, take, length-append, List·getD-append, List·getD-eq-default}
 use lib.Seq.{getD-at, take-append-le, take-all}
-use Rattle.opening.specs.Search.{any}
-use Rattle.opening.specs.Causes.{vertex, has}
+use Rattle.intake.specs.Search.{any}
+use Rattle.intake.specs.Causes.{vertex, has}
 use Rattle.opening.specs.Colours.{smaller, taken, colours, colourOf, largest}
-use Rattle.opening.proofs.laws.Search.{any-has, any-some}
+use Rattle.intake.proofs.laws.Search.{any-has, any-some}
 use Rattle.opening.proofs.laws.Free.{free-most}
 
 -- ---- the list

@@ -8,8 +8,8 @@ use native.Mathlib.Omega.{arith}
 use borrow.Author.Tests.{eqb-true}
 use lib.Dec.{eqb}
 use lib.ListN.{length}
-use Rattle.opening.specs.Search.{any, count}
-use Rattle.opening.specs.Causes.{vertex, has}
+use Rattle.intake.specs.Search.{any, count}
+use Rattle.intake.specs.Causes.{vertex, has}
 use Rattle.opening.specs.Scratch.{slot, Plain}
 use Rattle.opening.proofs.laws.Counting.{count-same, count-add, count-once}
 use Rattle.opening.proofs.laws.Walking.{visits}

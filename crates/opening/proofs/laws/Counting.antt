@@ -6,8 +6,8 @@ use native.Mathlib.Nat.{add-zero, zero-add, add-suc, add-assoc}
 use native.Mathlib.Omega.{arith}
 use borrow.Author.Tests.{lt-ltb}
 use lib.Dec.{ltb}
-use Rattle.opening.specs.Search.{any, count}
-use Rattle.opening.proofs.laws.Search.{any-some}
+use Rattle.intake.specs.Search.{any, count}
+use Rattle.intake.proofs.laws.Search.{any-some}
 
 -- only the places below n matter
 pub count-same : (test test' : ℕ → Bool) (n : ℕ) → ((i : ℕ) → i < n → test i ≡ test' i) → count test n ≡ count test' n

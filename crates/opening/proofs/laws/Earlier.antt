@@ -9,8 +9,8 @@ use Rattle.chain.specs.Chain.{latest}
 use Rattle.chain.proofs.laws.Index.{next-link}
 use Rattle.chain.proofs.laws.Walk.{latest-below}
 use Rattle.opening.specs.declared.faces.Seen.{Seen}
-use Rattle.opening.specs.Search.{count}
-use Rattle.opening.specs.Causes.{has}
+use Rattle.intake.specs.Search.{count}
+use Rattle.intake.specs.Causes.{has}
 use Rattle.opening.specs.Scratch.{linksAt, slot, Plain, Filled, one, Few, noted, Counted}
 use Rattle.opening.proofs.laws.Corners.{elements-visits}
 use Rattle.opening.proofs.laws.Walking.{visits-below, Walking, walk-start, walk-key, walk-next, walk-end}

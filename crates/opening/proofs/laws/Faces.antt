@@ -15,7 +15,7 @@ use lib.Dec.{ltb, leb}
 use lib.ListN.{length}
 use Rattle.opening.specs.declared.faces.Seen.{Seen}
 use Rattle.opening.specs.declared.faces.Met.{Met}
-use Rattle.opening.specs.Causes.{vertex, has, before, same, third}
+use Rattle.intake.specs.Causes.{vertex, has, before, same, third}
 use Rattle.opening.specs.Scratch.{Plain, Chosen, Other, one, Held, noted, Counted, crowd, opposite, Around, Meets}
 use Rattle.opening.proofs.laws.Counting.{any-count, count-same}
 

@@ -8,7 +8,7 @@ use native.Mathlib.Omega.{arith}
 use borrow.Author.Tests.{lt-ltb, le-ltb, eq-eqb, ne-eqb}
 use lib.Dec.{eqb, ltb}
 use lib.ListN.{getD}
-use Rattle.opening.specs.Search.{free}
+use Rattle.intake.specs.Search.{free}
 use Rattle.opening.specs.Scratch.{unmarked}
 
 -- what `free` is, in one record, for a proof by induction

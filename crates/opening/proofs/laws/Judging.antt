@@ -6,13 +6,14 @@ use Prim.Native.Nat.{ℕ, _/_}
 use native.Mathlib.Omega.{arith}
 use lib.ListN.{length}
 use lib.Ieee.{Float}
-use Rattle.opening.specs.declared.answer.Found.{Found}
-use Rattle.opening.specs.declared.answer.Found.the-variants.{At, Nowhere}
-use Rattle.opening.specs.declared.answer.Verdict.{Verdict}
-use Rattle.opening.specs.declared.answer.Verdict.the-variants.{Refused, Passed}
-use Rattle.opening.specs.Search.{first}
-use Rattle.opening.specs.Causes.{wrongInput, wrongLent, noRoom, unusable, missing, double, same, third}
-use Rattle.opening.specs.Opening.{when, at, fitting, plain, late, judged}
+use Rattle.intake.specs.declared.answer.Found.{Found}
+use Rattle.intake.specs.declared.answer.Found.the-variants.{At, Nowhere}
+use Rattle.intake.specs.declared.answer.Verdict.{Verdict}
+use Rattle.intake.specs.declared.answer.Verdict.the-variants.{Refused, Passed}
+use Rattle.intake.specs.Search.{first}
+use Rattle.intake.specs.Causes.{wrongInput, wrongLent, noRoom, unusable, missing, double, same, third}
+use Rattle.intake.specs.Verdict.{when, at, fitting, plain}
+use Rattle.opening.specs.Opening.{late, judged}
 use Rattle.opening.specs.Scratch.{Clear, Ready, Plain, Coloured, Sifted, Judged, Settled}
 use Rattle.opening.proofs.laws.Passed.{plain-passed, roomy-passed}
 use Rattle.opening.proofs.laws.Verdicts.{garish-last}

@@ -12,7 +12,7 @@ use lib.Seq.{set-out, getD-set-same, getD-set-other}
 use Rattle.chain.specs.Chain.{latest}
 use Rattle.chain.proofs.laws.Walk.{latest-between, latest-below, latest-some}
 use Rattle.chain.proofs.laws.Index.{next-link}
-use Rattle.opening.specs.Causes.{vertex, has}
+use Rattle.intake.specs.Causes.{vertex, has}
 use Rattle.opening.specs.Colours.{taken, colours}
 use Rattle.opening.specs.Scratch.{linksAt, slot, colourIn, Plain, Ready, Painted, Flags, marked, markedAll, Marks}
 use Rattle.opening.proofs.laws.Free.{flagged, flagged-set, flagged-clear}

@@ -8,7 +8,7 @@ use Rattle.tables.specs.Layout.{noFloat, pointAt, pointCells, recordCells, rowC
 use Rattle.tables.specs.Mesh.{Lent, padded, flat, upTo, laid}
 use Rattle.opening.specs.Colours.{colours, largest}
 use Rattle.opening.specs.Order.{rootOf}
-use Rattle.opening.specs.declared.answer.Verdict.the-variants as verdict
+use Rattle.intake.specs.declared.answer.Verdict.the-variants as verdict
 use Rattle.opening.specs.declared.answer.Opened.the-variants as opened
 use Rattle.opening.specs.Opening.{initial, openedMesh, verdictOn, lent, Opens}
 use Rattle.opening.specs.Scratch.{Painted, colourIn}

@@ -7,11 +7,11 @@ use native.Mathlib.Omega.{arith}
 use borrow.Author.Tests.{lt-ltb, le-ltb}
 use lib.ListN.{length, getD, set, length-set}
 use lib.Seq.{getD-set-same, getD-set-other}
-use Rattle.opening.specs.declared.answer.Found.the-variants.{At, Nowhere}
-use Rattle.opening.specs.Search.{first}
+use Rattle.intake.specs.declared.answer.Found.the-variants.{At, Nowhere}
+use Rattle.intake.specs.Search.{first}
 use Rattle.opening.specs.Colours.{taken, colours, colourOf, garish, largest}
 use Rattle.opening.specs.Scratch.{paintLength, colourIn, Plain, Clear, Painted, Marks, unmarked, Coloured}
-use Rattle.opening.proofs.laws.Search.{first-start, first-passed, first-stopped}
+use Rattle.intake.proofs.laws.Search.{first-start, first-passed, first-stopped}
 use Rattle.opening.proofs.laws.Free.{flagged, free-min, unmarked-free}
 use Rattle.opening.proofs.laws.Colours.{colours-at, colours-out, taken-last, largest-step}
 

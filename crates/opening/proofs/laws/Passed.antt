@@ -10,11 +10,11 @@ use lib.Ieee.{Float, nan, inf, fin}
 use borrow.Author.Tests.{ltb-false, leb-true, leb-false, le-leb, eqb-true, eqb-false, not-false}
 use Rattle.split.specs.Magnitude.{Bounded}
 use Rattle.tables.specs.Layout.{roomOf}
-use Rattle.opening.specs.declared.answer.Found.the-variants.{Nowhere}
-use Rattle.opening.specs.Search.{first}
-use Rattle.opening.specs.Causes.{wrongInput, noRoom, usable, vertex, missing, twice, double}
+use Rattle.intake.specs.declared.answer.Found.the-variants.{Nowhere}
+use Rattle.intake.specs.Search.{first}
+use Rattle.intake.specs.Causes.{wrongInput, noRoom, usable, vertex, missing, twice, double}
 use Rattle.opening.specs.Scratch.{Plain, Roomy}
-use Rattle.opening.proofs.laws.Search.{first-none}
+use Rattle.intake.proofs.laws.Search.{first-none}
 
 -- no test of a chain holds
 neither : (a b : Bool) → (a || b) ≡ false → (a ≡ false) × (b ≡ false)

@@ -7,8 +7,8 @@ use native.Mathlib.Decide.{decLe}
 use native.Mathlib.Omega.{arith}
 use lib.ListN.{length, getD, take}
 use lib.Seq.{take-suc, take-all}
-use Rattle.opening.specs.Search.{free}
-use Rattle.opening.specs.Causes.{vertex}
+use Rattle.intake.specs.Search.{free}
+use Rattle.intake.specs.Causes.{vertex}
 use Rattle.opening.specs.Colours.{taken, colours, colourOf, largest}
 use Rattle.opening.proofs.laws.Free.{free-not}
 pub use Rattle.opening.proofs.laws.Colours.{colours-length, colours-at}

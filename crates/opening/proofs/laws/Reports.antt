@@ -8,16 +8,17 @@ use lib.ListN.{length}
 use lib.Ieee.{Float}
 use Rattle.tables.specs.Mesh.{Lent}
 use Rattle.tables.specs.Report.{Report}
-use Rattle.opening.specs.declared.answer.Found.{Found}
-use Rattle.opening.specs.declared.answer.Found.the-variants.{At, Nowhere}
-use Rattle.opening.specs.declared.answer.Verdict.{Verdict}
-use Rattle.opening.specs.declared.answer.Verdict.the-variants as verdict
+use Rattle.intake.specs.declared.answer.Found.{Found}
+use Rattle.intake.specs.declared.answer.Found.the-variants.{At, Nowhere}
+use Rattle.intake.specs.declared.answer.Verdict.{Verdict}
+use Rattle.intake.specs.declared.answer.Verdict.the-variants as verdict
 use Rattle.opening.specs.declared.answer.Opened.{Opened}
 use Rattle.opening.specs.declared.answer.Opened.the-variants.{Done, Refused}
-use Rattle.opening.specs.Search.{first}
-use Rattle.opening.specs.Causes.{wrongInput, wrongLent, noRoom, unusable, missing, double, same, third}
+use Rattle.intake.specs.Search.{first}
+use Rattle.intake.specs.Causes.{wrongInput, wrongLent, noRoom, unusable, missing, double, same, third}
 use Rattle.opening.specs.Colours.{garish}
-use Rattle.opening.specs.Opening.{when, at, late, plain, fitting, judged, answer, reported, verdictOn, Opens}
+use Rattle.intake.specs.Verdict.{when, at, plain, fitting}
+use Rattle.opening.specs.Opening.{late, judged, answer, reported, verdictOn, Opens}
 
 -- ---- the tests are numbered from 1
 

@@ -7,16 +7,16 @@ use native.Mathlib.Nat.{le-antisymm}
 use native.Mathlib.Numerals.{add-one}
 use native.Mathlib.Omega.{arith}
 use lib.ListN.{length}
-use Rattle.opening.specs.declared.answer.Found.{Found}
-use Rattle.opening.specs.declared.answer.Found.the-variants.{Nowhere}
-use Rattle.opening.specs.declared.answer.Verdict.{Verdict}
-use Rattle.opening.specs.declared.answer.Verdict.the-variants.{Refused, Passed}
+use Rattle.intake.specs.declared.answer.Found.{Found}
+use Rattle.intake.specs.declared.answer.Found.the-variants.{Nowhere}
+use Rattle.intake.specs.declared.answer.Verdict.{Verdict}
+use Rattle.intake.specs.declared.answer.Verdict.the-variants.{Refused, Passed}
 use Rattle.opening.specs.declared.faces.Met.{Met}
-use Rattle.opening.specs.Search.{orAt, first}
-use Rattle.opening.specs.Causes.{same, third}
-use Rattle.opening.specs.Opening.{at}
+use Rattle.intake.specs.Search.{orAt, first}
+use Rattle.intake.specs.Causes.{same, third}
+use Rattle.intake.specs.Verdict.{at}
 use Rattle.opening.specs.Scratch.{Plain, Filled, Meets, Sifted}
-use Rattle.opening.proofs.laws.Search.{first-start, first-passed, first-stopped}
+use Rattle.intake.proofs.laws.Search.{first-start, first-passed, first-stopped}
 
 pub record Sifting (E : List ℕ) (k : ℕ) (t : Found) (index : List ℕ) : Type 0 where
   pub within : k ≤ length E / 4

@@ -9,7 +9,7 @@ use borrow.Author.Tests.{eq-eqb, ne-eqb}
 use lib.Dec.{eqb}
 use Rattle.chain.specs.Chain.{latest}
 use Rattle.chain.proofs.laws.Walk.{latest-hit, latest-miss, latest-below, latest-some}
-use Rattle.opening.specs.Search.{count}
+use Rattle.intake.specs.Search.{count}
 use Rattle.opening.proofs.laws.Counting.{count-below}
 
 -- how many places below n have the key v and pass the test

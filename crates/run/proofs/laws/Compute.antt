@@ -7,8 +7,8 @@ use Prim.Native.Nat.{ℕ, zero, suc}
 use native.Mathlib.Omega.{arith}
 use borrow.Author.Tests.{eqb-true, eqb-false}
 use lib.Dec.{eqb}
-use Rattle.opening.specs.declared.answer.Found.{Found}
-use Rattle.opening.specs.declared.answer.Found.the-variants.{At, Nowhere}
+use Rattle.intake.specs.declared.answer.Found.{Found}
+use Rattle.intake.specs.declared.answer.Found.the-variants.{At, Nowhere}
 use Rattle.run.specs.Skeleton.{Skeleton, rowIn}
 use Rattle.run.specs.Run.{blocking, splitPatch, Run, clear, blocked, RunAll, done, passed, refined}
 use Rattle.run.specs.Compute.{andThen, refine, refineAll, refineCalls}

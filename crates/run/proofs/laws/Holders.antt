@@ -13,8 +13,8 @@ use Rattle.split.specs.declared.row.Row.{Row}
 use Rattle.split.specs.declared.row.Ends.{Ends}
 use Rattle.split.specs.Split.{Corners, at, Holds}
 use Rattle.split.specs.Row.{cornersOf, edgeOf}
-use Rattle.opening.specs.declared.answer.Found.{Found}
-use Rattle.opening.specs.declared.answer.Found.the-variants.{At, Nowhere}
+use Rattle.intake.specs.declared.answer.Found.{Found}
+use Rattle.intake.specs.declared.answer.Found.the-variants.{At, Nowhere}
 use Rattle.sound.proofs.laws.Searches.{and-both}
 use Rattle.run.specs.Skeleton.{rowIn}
 use Rattle.run.specs.Run.{has, holding, holdersFrom, holders, sameEnds, otherIn, blocking}

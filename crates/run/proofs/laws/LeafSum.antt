@@ -14,7 +14,7 @@ use Rattle.forest.specs.Element.{Element, el, depth}
 use Rattle.forest.specs.Closed.{Present, Leaf, Closed}
 use Rattle.forest.specs.LeafSum.{leavesFrom, total}
 use Rattle.forest.proofs.LeafSum.{leaf-sum, leaves-once, forest-leaves}
-use Rattle.opening.proofs.laws.Search.{any-has, any-some}
+use Rattle.intake.proofs.laws.Search.{any-has, any-some}
 use Rattle.sound.specs.Sound.{rows, rowOf, Grown, Conforming}
 use Rattle.sound.specs.Forest.{forestOf, elementOf, SplitOf}
 use Rattle.sound.proofs.laws.Placed.{placed}

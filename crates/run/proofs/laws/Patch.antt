@@ -18,7 +18,7 @@ use Rattle.split.proofs.laws.Rows.{vertices-step}
 use Rattle.tables.specs.declared.record.Record.{Record}
 use Rattle.tables.specs.Layout.{noPoint, noRecord}
 use Rattle.tables.specs.Mesh.{Mesh}
-use Rattle.opening.specs.declared.answer.Found.the-variants.{At, Nowhere}
+use Rattle.intake.specs.declared.answer.Found.the-variants.{At, Nowhere}
 use Rattle.sound.specs.Sound.{vertices, rows, pointOf, recordOf, rowOf, Records, Grown, Conforming}
 use Rattle.sound.proofs.laws.Leaves.{leaf-whole}
 use Rattle.sound.proofs.laws.Placed.{placed, row-distinct}

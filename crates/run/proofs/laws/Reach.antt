@@ -13,8 +13,8 @@ use Rattle.split.proofs.laws.Places.{le-or-lt}
 use Rattle.tables.specs.Layout.{noRecord}
 use Rattle.tables.specs.Mesh.{Mesh}
 use Rattle.forest.specs.Element.{Element}
-use Rattle.opening.specs.declared.answer.Found.the-variants.{At, Nowhere}
-use Rattle.opening.specs.Search.{count}
+use Rattle.intake.specs.declared.answer.Found.the-variants.{At, Nowhere}
+use Rattle.intake.specs.Search.{count}
 use Rattle.sound.specs.Forest.{largestIn, elementWithin, elementOf}
 use Rattle.run.specs.Skeleton.{Skeleton, rowIn, meshed}
 use Rattle.run.specs.Ready.{Ready, Open, Reach, here, onward, edgeRank, rankIn}

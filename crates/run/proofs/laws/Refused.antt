@@ -10,7 +10,7 @@ use Rattle.tables.specs.declared.layout.Counts.{Counts}
 use Rattle.forest.specs.Element.{Element}
 use Rattle.forest.specs.Closed.{Closed}
 use Rattle.forest.proofs.Forced.{forced-closed}
-use Rattle.opening.specs.declared.answer.Found.the-variants.{At, Nowhere}
+use Rattle.intake.specs.declared.answer.Found.the-variants.{At, Nowhere}
 use Rattle.sound.specs.Forest.{forestOf, elementOf}
 use Rattle.run.specs.Ready.{Ready, Open}
 use Rattle.run.specs.Skeleton.{Skeleton, rowIn, meshed}

@@ -11,7 +11,7 @@ use Rattle.split.specs.declared.point.Point.{Point}
 use Rattle.tables.specs.declared.layout.Counts.{Counts}
 use Rattle.tables.specs.Mesh.{Mesh}
 use Rattle.forest.specs.Element.{Name, Element, middle, shape}
-use Rattle.opening.specs.Search.{count}
+use Rattle.intake.specs.Search.{count}
 use Rattle.opening.proofs.laws.Counting.{count-below}
 use Rattle.sound.specs.Sound.{vertices, rows, rowOf, Grown}
 use Rattle.sound.specs.Forest.{forestOf, nameOf, elementOf, SplitOf, splitsIn}

@@ -13,7 +13,7 @@ use Rattle.split.specs.Row.{edgeOf}
 use Rattle.tables.specs.Mesh.{Mesh}
 use Rattle.forest.specs.Element.{Forest, Element, el, shape, HoldsEdge}
 use Rattle.forest.specs.Closed.{Present, Closed}
-use Rattle.opening.specs.declared.answer.Found.the-variants.{At, Nowhere}
+use Rattle.intake.specs.declared.answer.Found.the-variants.{At, Nowhere}
 use Rattle.sound.specs.Sound.{vertices, rows, rowOf, Grown}
 use Rattle.sound.specs.Forest.{forestOf, colourIn, largestIn, elementOf, SplitOf}
 use Rattle.sound.proofs.laws.Splits.{row-present}

@@ -5,8 +5,8 @@ use Rattle.split.specs.Split.{first, second}
 use Rattle.split.specs.Row.{readTag, edgeOf, deeper, below, firstOf, secondOf}
 use Rattle.tables.specs.Mesh.{upTo}
 use Rattle.forest.specs.Start.{arranged}
-use Rattle.opening.specs.Search.{any, free}
-use Rattle.opening.specs.Causes.{has as held}
+use Rattle.intake.specs.Search.{any, free}
+use Rattle.intake.specs.Causes.{has as held}
 use Rattle.opening.specs.Colours.{taken, colours, largest}
 use Rattle.opening.specs.Order.{sorted, rootOf}
 use Rattle.opening.specs.Opening.{openedMesh}

@@ -19,17 +19,18 @@ use Rattle.tables.specs.Layout.{noRecord, noRow}
 use Rattle.tables.specs.Mesh.{Mesh}
 use Rattle.tables.proofs.laws.View.{length-up-to, up-to-at}
 use Rattle.forest.specs.Start.{moved, arranged, Rising, Started, Coloured}
-use Rattle.opening.specs.declared.answer.Found.{Found}
-use Rattle.opening.specs.declared.answer.Found.the-variants.{At, Nowhere}
-use Rattle.opening.specs.declared.answer.Verdict.{Verdict}
-use Rattle.opening.specs.declared.answer.Verdict.the-variants.{Refused, Passed}
-use Rattle.opening.specs.Search.{first}
-use Rattle.opening.specs.Causes.{wrongInput, wrongLent, noRoom, unusable, missing, vertex, double, same, third}
+use Rattle.intake.specs.declared.answer.Found.{Found}
+use Rattle.intake.specs.declared.answer.Found.the-variants.{At, Nowhere}
+use Rattle.intake.specs.declared.answer.Verdict.{Verdict}
+use Rattle.intake.specs.declared.answer.Verdict.the-variants.{Refused, Passed}
+use Rattle.intake.specs.Search.{first}
+use Rattle.intake.specs.Causes.{wrongInput, wrongLent, noRoom, unusable, missing, vertex, double, same, third}
 use Rattle.opening.specs.Colours.{colours, colourOf, garish, largest}
 use Rattle.opening.specs.Order.{sorted, given, rootOf}
-use Rattle.opening.specs.Opening.{when, at as refusedAt, fitting, plain, late, judged, initial, openedMesh}
+use Rattle.intake.specs.Verdict.{when, fitting, plain}
+use Rattle.opening.specs.Opening.{at as refusedAt, late, judged, initial, openedMesh}
 use Rattle.opening.specs.Scratch.{Plain}
-use Rattle.opening.proofs.laws.Search.{first-none}
+use Rattle.intake.proofs.laws.Search.{first-none}
 use Rattle.opening.proofs.laws.Passed.{plain-passed}
 use Rattle.opening.proofs.laws.Colours.{largest-none}
 use Rattle.opening.proofs.laws.Proper.{colours-length, colours-at, colours-proper, colours-most, colours-reached}

@@ -13,7 +13,7 @@ use Rattle.tables.specs.Layout.{pointWidth, pointCells, pointAt, noRow}
 use Rattle.tables.specs.Mesh.{upTo, flat}
 use Rattle.tables.proofs.laws.View.{length-up-to, up-to-at, length-flat, flat-up-to}
 use Rattle.tables.proofs.laws.Rows.{points}
-use Rattle.opening.specs.Causes.{vertex, has}
+use Rattle.intake.specs.Causes.{vertex, has}
 use Rattle.opening.specs.Order.{sorted, given, rootOf}
 use Rattle.opening.proofs.laws.Sorted.{sorted-of, sorted-has}
 use Rattle.sound.specs.Sound.{vertexCells}

@@ -10,7 +10,7 @@ use lib.Dec.{eqb, ltb}
 use Rattle.split.specs.Split.{Side, left, right}
 use Rattle.split.proofs.laws.Places.{less, equal, more, against}
 use Rattle.tables.specs.Mesh.{Mesh}
-use Rattle.opening.specs.Search.{count}
+use Rattle.intake.specs.Search.{count}
 use Rattle.opening.proofs.laws.Counting.{count-same, count-add, count-zero}
 use Rattle.sound.specs.Sound.{rows, rowOf, place, Grown}
 use Rattle.sound.specs.Forest.{splitsIn}

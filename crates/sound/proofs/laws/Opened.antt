@@ -9,7 +9,7 @@ use Rattle.tables.specs.declared.layout.Counts.{Counts}
 use Rattle.tables.specs.Layout.{noRecord, noRow, pointAt, pointWidth, recordWidth, rowWidth}
 use Rattle.tables.specs.Mesh.{flat, laid}
 use Rattle.tables.proofs.laws.View.{Within, countsOf, length-up-to, up-to-at}
-use Rattle.opening.specs.declared.answer.Verdict.the-variants.{Passed}
+use Rattle.intake.specs.declared.answer.Verdict.the-variants.{Passed}
 use Rattle.opening.specs.Colours.{colours, largest}
 use Rattle.opening.specs.Order.{rootOf}
 use Rattle.opening.specs.Opening.{initial, judged, openedMesh}

@@ -8,7 +8,7 @@ use lib.ListN.{length}
 use Rattle.split.specs.Split.{three, Corners, corners, at, Holds}
 use Rattle.split.proofs.laws.Places.{Against, less, equal, more, against}
 use Rattle.forest.specs.Start.{arranged}
-use Rattle.opening.specs.Causes.{vertex, has}
+use Rattle.intake.specs.Causes.{vertex, has}
 use Rattle.opening.specs.Order.{sorted, given, root, rootOf}
 use Rattle.opening.proofs.laws.Colours.{has-place, has-some}
 use Rattle.opening.proofs.laws.Sorted.{sorted-of, sorted-has, sorted-climbs}

@@ -10,14 +10,14 @@ use lib.Ieee.{Float}
 use Rattle.split.proofs.laws.Places.{Against, less, equal, more, against}
 use Rattle.split.specs.declared.row.Row.{Row}
 use Rattle.tables.specs.Layout.{noRow}
-use Rattle.opening.specs.declared.answer.Found.the-variants.{Nowhere}
-use Rattle.opening.specs.Search.{first}
-use Rattle.opening.specs.Causes.{wrongLent, noRoom, vertex, missing, double, same, third}
+use Rattle.intake.specs.declared.answer.Found.the-variants.{Nowhere}
+use Rattle.intake.specs.Search.{first}
+use Rattle.intake.specs.Causes.{wrongLent, noRoom, vertex, missing, double, same, third}
 use Rattle.opening.specs.Colours.{colours, garish, largest}
 use Rattle.opening.specs.Order.{rootOf}
 use Rattle.opening.specs.Opening.{openedMesh}
 use Rattle.opening.specs.Scratch.{Plain}
-use Rattle.opening.proofs.laws.Search.{first-none}
+use Rattle.intake.proofs.laws.Search.{first-none}
 use Rattle.opening.proofs.laws.Passed.{plain-passed}
 use Rattle.opening.proofs.laws.Proper.{colours-proper}
 use Rattle.sound.proofs.laws.Searches.{refuted, first-nowhere}

@@ -7,10 +7,10 @@ use native.Mathlib.Omega.{arith}
 use borrow.Author.Tests.{leb-true, le-leb, ne-eqb}
 use lib.Dec.{eqb, leb}
 use lib.ListN.{length}
-use Rattle.opening.specs.Search.{any, count}
-use Rattle.opening.specs.Causes.{vertex, missing, twice, double, has, same, third}
+use Rattle.intake.specs.Search.{any, count}
+use Rattle.intake.specs.Causes.{vertex, missing, twice, double, has, same, third}
 use Rattle.opening.specs.Colours.{taken, colours, colourOf}
-use Rattle.opening.proofs.laws.Search.{any-has, any-some}
+use Rattle.intake.proofs.laws.Search.{any-has, any-some}
 use Rattle.opening.proofs.laws.Colours.{Neighbour, taken-has, taken-some, has-place, has-some}
 use Rattle.sound.proofs.laws.Searches.{and-both, agree, count-most, each-of-four, or-some, or-has, but, but-each, but-all}
 

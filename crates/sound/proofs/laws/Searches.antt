@@ -4,9 +4,9 @@ use mathlib.Core.Bool.{Bool, true, false, _&&_, _||_, cond, true≢false, or-tru
 use Prim.Native.Nat.{ℕ, zero, suc, _+_, _≤_, _<_}
 use native.Mathlib.Numerals.{add-one}
 use native.Mathlib.Omega.{arith}
-use Rattle.opening.specs.declared.answer.Found.the-variants.{Nowhere}
-use Rattle.opening.specs.Search.{first, count}
-use Rattle.opening.proofs.laws.Search.{first-start, first-passed}
+use Rattle.intake.specs.declared.answer.Found.the-variants.{Nowhere}
+use Rattle.intake.specs.Search.{first, count}
+use Rattle.intake.proofs.laws.Search.{first-start, first-passed}
 
 -- ---- tests as answers
 

@@ -15,7 +15,7 @@ use Rattle.tables.specs.Layout.{pointAt, recordAt, rowAt}
 use Rattle.tables.specs.Mesh.{Mesh, meshOf, upTo, flat}
 use Rattle.tables.proofs.laws.View.{up-to-next, length-up-to, flat-append, flat-one, flat-up-to, length-flat}
 use Rattle.tables.proofs.laws.Rows.{points}
-use Rattle.opening.specs.declared.answer.Verdict.the-variants.{Passed}
+use Rattle.intake.specs.declared.answer.Verdict.the-variants.{Passed}
 use Rattle.opening.specs.Colours.{colours, largest}
 use Rattle.opening.specs.Order.{rootOf}
 use Rattle.opening.specs.Opening.{judged, initial, openedMesh}

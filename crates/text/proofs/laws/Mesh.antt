@@ -12,7 +12,7 @@ use Rattle.tables.specs.declared.layout.Counts.{Counts}
 use Rattle.tables.specs.Layout.{roomOf}
 use Rattle.tables.specs.Mesh.{Lent, meshOf, padded}
 use Rattle.tables.specs.Report.{done, refusal}
-use Rattle.opening.specs.Search.{count}
+use Rattle.intake.specs.Search.{count}
 use Rattle.opening.proofs.laws.Counting.{count-below}
 use Rattle.sound.specs.Sound.{Sound}
 use Rattle.sound.specs.Check.{lent}

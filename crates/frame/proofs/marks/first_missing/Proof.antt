@@ -2,7 +2,7 @@ use Prim.Native.Nat.{_-_}
 use borrow.Author.Needs.{needs}
 use lib.Dec.{leb}
 use lib.ListN.{getD}
-use Rattle.opening.proofs.laws.Loop.{Searched, searching}
+use Rattle.intake.proofs.laws.Loop.{Searched, searching}
 use Rattle.frame.proofs.marks.first_missing.Statement.{statement}
 use Rattle.frame.proofs.marks.first_missing.Tie as tie
 

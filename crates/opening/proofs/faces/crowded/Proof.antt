@@ -1,5 +1,5 @@
 use Rattle.opening.specs.Scratch.{crowd}
-use Rattle.opening.proofs.laws.Tests.{tests}
+use Rattle.intake.proofs.laws.Tests.{tests}
 use Rattle.opening.proofs.faces.crowded.Statement.{statement}
 use Rattle.opening.proofs.faces.crowded.Tie as tie
 

@@ -1,0 +1,14 @@
+-- Two outcomes that meet a public function's promise are equal. `Learnt` is the promise itself, as the check reads it off the function's contract.
+use mathlib.Core.Path.{_≡_, sym, _∙_}
+use Rattle.intake.proofs.verdict_at.Reads as verdict-at
+use Rattle.intake.proofs.judge_lengths.Reads as judge-lengths
+use Rattle.intake.proofs.judge_numbers.Reads as judge-numbers
+
+pub verdict-at-determined : (κs : _) (a : _) (r r' : _) (s s' : _) → verdict-at.Learnt κs a r s → verdict-at.Learnt κs a r' s' → r ≡ r'
+verdict-at-determined κs a r r' s s' p q = p ∙ sym q
+
+pub judge-lengths-determined : (κs : _) (a : _) (r r' : _) (s s' : _) → judge-lengths.Learnt κs a r s → judge-lengths.Learnt κs a r' s' → r ≡ r'
+judge-lengths-determined κs a r r' s s' p q = p ∙ sym q
+
+pub judge-numbers-determined : (κs : _) (a : _) (r r' : _) (s s' : _) → judge-numbers.Learnt κs a r s → judge-numbers.Learnt κs a r' s' → r ≡ r'
+judge-numbers-determined κs a r r' s s' p q = p ∙ sym q

@@ -1,0 +1,5 @@
+pub mod Search
+pub mod Tests
+pub mod Loop
+pub mod Usable
+pub mod Verdicts
