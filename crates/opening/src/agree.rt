@@ -1,10 +1,10 @@
 // Whether tables hold what opening would give: the same colours and, but for the first child, the same rows.
-use intake::answer::Verdict;
 use crate::colours::PAINT;
 use crate::colours::largest_colour;
 use crate::judge::judge;
 use crate::order::root_row;
 use crate::store::initial_record;
+use intake::answer::Verdict;
 use split::row::Row;
 use tables::record::Record;
 ghost use mathlib.Core.Path.{_≡_};

@@ -1,8 +1,8 @@
 // Number 8 and the colours of Algorithm 2, in number order, through the index.
-use intake::answer::Found;
 use crate::elements::vertex_at;
 use crate::index::LINKS;
 use chain::wide;
+use intake::answer::Found;
 ghost use mathlib.Core.Path.{_≡_};
 ghost use Prim.Native.Nat.{ℕ, _*_, _/_, _<_, _≤_, _+_, min};
 ghost use lib.ListN.{length, getD};

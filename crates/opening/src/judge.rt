@@ -1,9 +1,9 @@
 // The tests in their order.
-use intake::answer::Found;
-use intake::answer::Verdict;
 use crate::colours::colour_all;
 use crate::faces::meets;
 use crate::index::fill;
+use intake::answer::Found;
+use intake::answer::Verdict;
 use intake::judge_lengths;
 use intake::judge_numbers;
 use intake::verdict_at;

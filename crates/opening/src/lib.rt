@@ -1,7 +1,7 @@
 // Opening a mesh: tests 1 to 8, the colours of Algorithm 2, the order of Definition 2, and the opened tables.
 use crate::answer::Opened;
-use intake::answer::Verdict;
 use crate::colours::PAINT;
+use intake::answer::Verdict;
 use tables::layout::Counts;
 
 pub mod agree;
