@@ -22,7 +22,7 @@ use Rattle.opening.specs.Order.{rootOf}
 use Rattle.opening.specs.Opening.{initial, judged}
 use Rattle.opening.specs.Scratch.{Settled, colourIn}
 use Rattle.opening.specs.Agree.{accepts, every, sameRecord, sameRoot, recordsAgree, rowsAgree, paint, agreed}
-use Rattle.opening.proofs.laws.Verdicts.{input-refused}
+use Rattle.intake.proofs.laws.Verdicts.{input-refused}
 use Rattle.opening.proofs.laws.Opened.{colours-stored}
 
 -- ---- a chain of `&&`

@@ -27,8 +27,8 @@ use Rattle.intake.specs.Search.{first}
 use Rattle.intake.specs.Causes.{wrongInput, wrongLent, noRoom, unusable, missing, vertex, double, same, third}
 use Rattle.opening.specs.Colours.{colours, colourOf, garish, largest}
 use Rattle.opening.specs.Order.{sorted, given, rootOf}
-use Rattle.intake.specs.Verdict.{when, fitting, plain}
-use Rattle.opening.specs.Opening.{at as refusedAt, late, judged, initial, openedMesh}
+use Rattle.intake.specs.Verdict.{when, at as refusedAt, fitting, plain}
+use Rattle.opening.specs.Opening.{late, judged, initial, openedMesh}
 use Rattle.opening.specs.Scratch.{Plain}
 use Rattle.intake.proofs.laws.Search.{first-none}
 use Rattle.opening.proofs.laws.Passed.{plain-passed}
