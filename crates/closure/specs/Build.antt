@@ -4,8 +4,7 @@ use mathlib.Core.List.{List}
 use Prim.Native.Nat.{ℕ, _*_, _/_, _≤_, _<_}
 use lib.ListN.{length, getD}
 use Rattle.tables.specs.Layout.{rowWidth, noRow, rowAt}
-use Rattle.closure.specs.State.{corner}
-use Rattle.closure.specs.State.{linksAt, scratchLength}
+use Rattle.closure.specs.State.{corner, linksAt, scratchLength}
 
 -- no vertex has a slot yet
 pub record Headless (s : List ℕ) : Type 0 where

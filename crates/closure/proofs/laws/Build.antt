@@ -13,8 +13,7 @@ use Rattle.chain.specs.Chain.{Indexed, pushed}
 use Rattle.chain.proofs.laws.Pushed.{pushed-length}
 use Rattle.chain.proofs.laws.Index.{indexed-none, indexed-push-one}
 use Rattle.tables.specs.Layout.{rowAt}
-use Rattle.closure.specs.State.{corner}
-use Rattle.closure.specs.State.{linksAt, scratchLength, cornersPushed, rowPushed, State}
+use Rattle.closure.specs.State.{corner, linksAt, scratchLength, cornersPushed, rowPushed, State}
 use Rattle.closure.specs.Build.{Indexable}
 use Rattle.closure.proofs.laws.Index.{corner-row, rowPushed-length}
 use Rattle.closure.proofs.laws.Uses.{row-counted-indexed}

@@ -15,13 +15,12 @@ use Rattle.tables.specs.Layout.{rowWidth, recordWidth, pointWidth, noRow, point
 use Rattle.tables.specs.Mesh.{Mesh, meshOf}
 use Rattle.tables.proofs.laws.View.{length-up-to, up-to-at}
 use Rattle.sound.specs.Sound.{Sound}
-use Rattle.closure.specs.State.{corner}
+use Rattle.closure.specs.State.{corner, rowsOf, recordsOf, seen, linksAt, scratchLength, State}
 use Rattle.sound.specs.Check.{lent}
 use Rattle.sound.proofs.laws.Placed.{placed}
 use Rattle.run.specs.Skeleton.{Skeleton, meshed}
 use Rattle.run.specs.Ready.{Ready}
 use Rattle.run.proofs.laws.Points.{points-own}
-use Rattle.closure.specs.State.{rowsOf, recordsOf, seen, linksAt, scratchLength, State}
 use Rattle.closure.specs.Build.{Headless, Indexable}
 use Rattle.closure.specs.Refining.{Tables}
 use Rattle.closure.specs.Marking.{Steady}

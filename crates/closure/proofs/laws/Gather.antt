@@ -21,11 +21,10 @@ use Rattle.tables.specs.Layout.{noRow, rowAt}
 use Rattle.tables.specs.Mesh.{upTo}
 use Rattle.tables.proofs.laws.View.{length-up-to, up-to-at}
 use Rattle.opening.proofs.laws.Indexing.{indexed-kept}
-use Rattle.closure.specs.State.{corner}
+use Rattle.closure.specs.State.{corner, rowsOf, linksAt, patchAt, scratchLength, patchIn, State, EndOf, small, large, Gatherable, Gathers}
 use Rattle.run.specs.Skeleton.{rowIn}
 use Rattle.run.specs.Run.{has, holding, holdersFrom, holders}
 use Rattle.run.proofs.laws.Holders.{has-holds, holds-has, Holding, holding-is, is-holding, from-hit, from-miss}
-use Rattle.closure.specs.State.{rowsOf, linksAt, patchAt, scratchLength, patchIn, State, EndOf, small, large, Gatherable, Gathers}
 use Rattle.closure.proofs.laws.Index.{corner-row}
 
 -- ---- the list in the scratch table

@@ -19,9 +19,8 @@ use Rattle.chain.proofs.laws.Index.{indexed-push-one, indexed-same}
 use Rattle.tables.specs.Layout.{rowWidth, noRow, rowAt, putRow}
 use Rattle.tables.proofs.laws.Rows.{length-put-row, row-put}
 use Rattle.tables.proofs.laws.View.{length-up-to, up-to-at}
-use Rattle.closure.specs.State.{corner}
+use Rattle.closure.specs.State.{corner, rowsOf, linksAt, patchAt, scratchLength, cornersPushed, rowPushed, State, Splittable, Halves}
 use Rattle.run.specs.Run.{withChild, cut}
-use Rattle.closure.specs.State.{rowsOf, linksAt, patchAt, scratchLength, cornersPushed, rowPushed, State, Splittable, Halves}
 use Rattle.closure.proofs.laws.Uses.{row-counted-length, row-counted-beyond, row-counted-indexed}
 use Rattle.closure.proofs.laws.Rows.{row-other, rows-next, rows-set}
 

@@ -4,14 +4,13 @@ use mathlib.Core.List.{List}
 use mathlib.Core.Logic.{inl, inr}
 use Prim.Native.Nat.{ℕ, _*_, _/_, _%_, _<_}
 use native.Mathlib.Omega.{arith}
-use lib.Ieee.{Float}
 use lib.ListN.{length}
 use lib.Seq.{take-length}
 use Rattle.split.proofs.laws.Places.{le-or-lt}
-use Rattle.tables.specs.Layout.{rowWidth, recordWidth, pointWidth, rowAt, recordAt, pointAt}
+use Rattle.tables.specs.Layout.{rowWidth, recordWidth, rowAt, recordAt}
 use Rattle.tables.specs.Mesh.{upTo, flat}
 use Rattle.tables.proofs.laws.Table.{Table, at-past, at-put-other, length-put}
-use Rattle.tables.proofs.laws.Rows.{rows, records, points}
+use Rattle.tables.proofs.laws.Rows.{rows, records}
 use Rattle.tables.proofs.laws.View.{flat-up-to}
 use Rattle.sound.proofs.laws.Flat.{up-to-same}
 
@@ -37,6 +36,3 @@ rows-same l m e f h = table-same rows l m (length l / rowWidth) (omega arith) f 
 
 pub records-same : (l m : List ℕ) → length l % recordWidth ≡ 0 → length m ≡ length l → ((k : ℕ) → recordAt m k ≡ recordAt l k) → m ≡ l
 records-same l m e f h = table-same records l m (length l / recordWidth) (omega arith) f h
-
-pub points-same : (l m : List Float) → length l % pointWidth ≡ 0 → length m ≡ length l → ((k : ℕ) → pointAt m k ≡ pointAt l k) → m ≡ l
-points-same l m e f h = table-same points l m (length l / pointWidth) (omega arith) f h

@@ -14,13 +14,6 @@ stopped a b p = rw p
 pub passed : (a b r : Bool) → a ≡ false → r ≡ b → r ≡ (a || b)
 passed a b r p q = rw (p, q)
 
--- a test that is the answer p of a call
-pub answered : {p a : Bool} (b : Bool) → p ≡ a → p ≡ true → true ≡ (a || b)
-answered b e p = rw (← e, p)
-
-pub declined : {p a r : Bool} (b : Bool) → p ≡ a → p ≡ false → r ≡ b → r ≡ (a || b)
-declined b e p q = rw (← e, p, q)
-
 -- a negated test
 pub differs : (a b : ℕ) → (a ≡ b → ⊥) → not (eqb a b) ≡ true
 differs a b h = rw (ne-eqb a b h)
