@@ -24,8 +24,9 @@ pub mod Within
 pub mod Taken
 pub mod Accepted
 pub mod Kept
-pub mod History
 pub mod Opened
+pub mod History
+pub mod Refusals
 pub mod Coordinates
 pub mod LeafSum
 pub mod Exact

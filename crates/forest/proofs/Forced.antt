@@ -7,6 +7,11 @@ use Rattle.forest.specs.Element.{Forest, Element, el, HoldsEdge}
 use Rattle.forest.specs.Closed.{Present, ClosedAsDemanded, Closed, Forced, marked, parent, edge-root, edge-child}
 use Rattle.forest.specs.Union.{Either}
 
+-- what is in the mesh of a smaller set of splits is in that of a greater one
+pub present-in : (F : Forest) (A Z : Element → Type 0) → ((e : Element) → A e → Z e) → (e : Element) → Present F A e → Present F Z e
+present-in F A Z f (el k []) h = h
+present-in F A Z f (el k (s ∷ p)) h = f (el k p) h
+
 -- the two readings of `closed` agree, the second on sets that can be decided
 pub closed-demanded : {F : Forest} {S : Element → Type 0} → Closed F S → ClosedAsDemanded F S
 closed-demanded c = record { parents = c .parents; conforming = λ t u l s h. l .unsplit (c .edges t u (l .present) s h) }

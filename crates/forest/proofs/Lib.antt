@@ -7,6 +7,7 @@ pub mod Blocking
 pub mod Shallow
 pub mod Levels
 pub mod Forced
+pub mod Smallest
 pub mod History
 pub mod Rounds
 pub mod LeafSum

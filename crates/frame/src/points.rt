@@ -1,5 +1,7 @@
 // The points of appended midpoints, stored in number order once closure is done: nothing in closure depends on coordinates (document 01, "Closure").
 use chain::wide;
+use tables::layout::POINT;
+use tables::layout::least;
 ghost use mathlib.Core.Path.{_≡_};
 ghost use Rattle.tables.specs.Layout.{recordAt, putPoint};
 ghost use Rattle.frame.specs.Points.{halfwayAt, filled};
@@ -14,12 +16,13 @@ fn fill_point(points: &mut [f64], records: &[u32], v: usize)
     tables::point::write(points, v, split::point::midpoint(p, q));
 }
 
-// Stores the points of the vertices from `from` on, below `to`.
+// Stores the points of the vertices from `from` on, below `to`. The table has none past its end.
 pub fn fill(points: &mut [f64], records: &[u32], from: usize, to: usize)
     ensures { λ _. ⌜ now (points .exit) ≡ filled (now (points .entry)) (now (records .entry)) from to ⌝ }
 {
+    let end = least(to, points.len() / POINT);
     let mut v = from;
-    while v < to {
+    while v < end {
         fill_point(points, records, v);
         v += 1;
     }

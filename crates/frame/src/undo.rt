@@ -2,6 +2,9 @@
 use chain::wide;
 use split::row::Row;
 use tables::layout::Counts;
+use tables::layout::RECORD;
+use tables::layout::ROW;
+use tables::layout::least;
 use tables::record::Record;
 ghost use mathlib.Core.Path.{_≡_};
 ghost use Rattle.tables.specs.Layout.{noRow, noRecord, rowAt, putRow, putRecord};
@@ -37,8 +40,9 @@ fn release_row(rows: &mut [u32], k: usize, n: usize)
 fn release(rows: &mut [u32], n: usize)
     ensures { λ _. ⌜ now (rows .exit) ≡ released (now (rows .entry)) n ⌝ }
 {
+    let end = least(n, rows.len() / ROW);
     let mut k = 0usize;
-    while k < n {
+    while k < end {
         release_row(rows, k, n);
         k += 1;
     }
@@ -63,8 +67,9 @@ fn clear_row(rows: &mut [u32], k: usize)
 fn clear_rows(rows: &mut [u32], from: usize, to: usize)
     ensures { λ _. ⌜ now (rows .exit) ≡ emptiedRows (now (rows .entry)) from to ⌝ }
 {
+    let end = least(to, rows.len() / ROW);
     let mut k = from;
-    while k < to {
+    while k < end {
         clear_row(rows, k);
         k += 1;
     }
@@ -83,8 +88,9 @@ fn clear_record(records: &mut [u32], k: usize)
 fn clear_records(records: &mut [u32], from: usize, to: usize)
     ensures { λ _. ⌜ now (records .exit) ≡ emptiedRecords (now (records .entry)) from to ⌝ }
 {
+    let end = least(to, records.len() / RECORD);
     let mut k = from;
-    while k < to {
+    while k < end {
         clear_record(records, k);
         k += 1;
     }

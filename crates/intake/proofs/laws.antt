@@ -3,3 +3,4 @@ pub mod Tests
 pub mod Loop
 pub mod Usable
 pub mod Verdicts
+pub mod First

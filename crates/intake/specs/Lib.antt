@@ -1,3 +1,4 @@
 pub mod Search
 pub mod Causes
 pub mod Verdict
+pub mod First

@@ -18,4 +18,6 @@ pub mod Sorting
 pub mod Sorted
 pub mod Opened
 pub mod Agree
+pub mod Greedy
+pub mod Refusals
 pub mod Reports

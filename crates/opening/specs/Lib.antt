@@ -4,3 +4,5 @@ pub mod Opening
 pub mod Scratch
 pub mod Sorting
 pub mod Agree
+pub mod Greedy
+pub mod Refusals

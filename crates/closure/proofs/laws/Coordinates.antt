@@ -52,7 +52,7 @@ module _ {t u : Lent} (a : Alike t u) where
   unfolding meshOf
   same-skeleton c = λ j. record { records = upTo (recordAt (a .records j)) (c .vertices); rows = upTo (rowAt (a .rows j)) (c .rows) }
 
-  module _ {c : Counts} (s : Sound t c) (s' : Sound u c) {marks : List ℕ} (e : first (absent (c .rows) marks) (length marks) ≡ Nowhere) where
+  module _ {c : Counts} (s : Sound t c) (s' : Sound u c) (marks : List ℕ) (e : first (absent (c .rows) marks) (length marks) ≡ Nowhere) where
     same-depth : Deep (meshOf t c) (s .roots) marks → Deep (meshOf u c) (s' .roots) marks
     same-depth d = go (deeps (t .rows) (c .rows) marks) refl
       where
@@ -92,14 +92,14 @@ module _ {t u : Lent} (a : Alike t u) {r r₂ : Refined} {t' u' : Lent} where
     on-room : first (absent (c .rows) marks) (length marks) ≡ Nowhere → (Deep (meshOf t c) (s .roots) marks → ⊥) → (Deep (meshOf u c) (s' .roots) marks → ⊥)
         → OnRoom t c (s .initials) (s .roots) marks r t' → OnRoom u c (s' .initials) (s' .roots) marks r₂ u' → Same r t' r₂ u'
     on-room e n n' (outgrown o x) (outgrown o' y) = same-refusal refl x y
-    on-room e n n' (outgrown o x) (fits f y) = absurd (same-fit a s s' e n n' (y .run) f o)
-    on-room e n n' (fits f x) (outgrown o y) = absurd (same-fit (alike-back a) s' s e n' n (x .run) f o)
+    on-room e n n' (outgrown o x) (fits f y) = absurd (same-fit a s s' marks e n n' (y .run) f o)
+    on-room e n n' (fits f x) (outgrown o y) = absurd (same-fit (alike-back a) s' s marks e n' n (x .run) f o)
     on-room e n n' (fits f x) (fits f' y) = same-acceptance x y
 
     on-depth : first (absent (c .rows) marks) (length marks) ≡ Nowhere → OnDepth t c (s .initials) (s .roots) marks r t' → OnDepth u c (s' .initials) (s' .roots) marks r₂ u' → Same r t' r₂ u'
     on-depth e (deep d x) (deep d' y) = same-refusal refl x y
-    on-depth e (deep d x) (shallow n y) = absurd (n (same-depth a s s' e d))
-    on-depth e (shallow n x) (deep d y) = absurd (n (same-depth (alike-back a) s' s e d))
+    on-depth e (deep d x) (shallow n y) = absurd (n (same-depth a s s' marks e d))
+    on-depth e (shallow n x) (deep d y) = absurd (n (same-depth (alike-back a) s' s marks e d))
     on-depth e (shallow n x) (shallow n' y) = on-room e n n' x y
 
     on-marks : OnMarks t c (s .initials) (s .roots) marks r t' → OnMarks u c (s' .initials) (s' .roots) marks r₂ u' → Same r t' r₂ u'

@@ -45,6 +45,12 @@ done-counts e = cc
 pub done-splits : {d d₂ : Counts} {n n₂ : ℕ} → Done d n ≡ Done d₂ n₂ → n ≡ n₂
 done-splits e = cc
 
+pub same-number : {n m p q : ℕ} → Refused n p ≡ Refused m q → n ≡ m
+same-number e = cc
+
+pub same-place : {n m p q : ℕ} → Refused n p ≡ Refused m q → p ≡ q
+same-place e = cc
+
 -- the report of a refusal follows from its answer
 pub refuses : {t : Lent} {n p : ℕ} {r : Refined} {t' : Lent} → r ≡ Refused n p → t' ≡ t → Refuses t n p r t'
 refuses e l = record { answers = e; reports = ap reported e; leaves = l }
@@ -112,9 +118,6 @@ refused-same (unsound n x) = x .leaves
 refused-same (sound s x) = refused-marks x
 
 -- ---- two answers with the same report are equal: no refusal has number 0, so a report tells which case it is of
-
-same-number : {n m p q : ℕ} → Refused n p ≡ Refused m q → n ≡ m
-same-number e = cc
 
 marks-number : {t : Lent} {c : Counts} {i roots : ℕ} {marks : List ℕ} {k p : ℕ} {t' : Lent} → OnMarks t c i roots marks (Refused k p) t' → 1 ≤ k
 marks-number (missing p e x) = omega (arith, same-number (x .answers))

@@ -1,16 +1,15 @@
--- Histories of calls on tables: what is split is what the calls' marks force, so order, grouping and repetition of marks do not matter (demand 3).
+-- Histories of calls on tables: what is split is what the calls' marks force (demand 3).
 use mathlib.Core.Path.{_≡_, refl, subst}
 use mathlib.Core.List.{List, [], _∷_, map, List·Memᴰ, Memᴰ·map, Memᴰ·of-map}
-use mathlib.Core.Logic.{_↔_, Iff·trans, Iff·symm, inl, inr}
+use mathlib.Core.Logic.{_↔_, Iff·trans, inl, inr}
 use Prim.Native.Nat.{ℕ, _<_}
 use lib.ListN.{length}
 use Rattle.split.specs.declared.point.Point.{Point}
 use Rattle.tables.specs.Mesh.{Mesh}
 use Rattle.forest.specs.Element.{Forest, Element}
 use Rattle.forest.specs.Union.{Either}
-use Rattle.forest.specs.History.{Marked, called}
+use Rattle.forest.specs.History.{called}
 use Rattle.forest.proofs.Forced.{forced-monotone}
-use Rattle.forest.proofs.History.{order-free}
 use Rattle.sound.specs.Sound.{rows, rowOf}
 use Rattle.sound.specs.Forest.{forestOf, elementOf, SplitOf}
 use Rattle.run.specs.Ready.{Ready}
@@ -41,7 +40,7 @@ marked-listed : (m : Mesh) (t : ℕ) (rs : List ℕ) (e : Element) → MarkedIn 
 marked-listed m t rs e k = subst (λ (x : Element). List·Memᴰ x (markedElements m t rs)) (k .is) (Memᴰ·map (elementOf m t) (k .listed))
 
 -- what a call needs after calls is what is split after it and them
-needed-called : (m : Mesh) (t : ℕ) (calls : List (List Element)) (rs : List ℕ) → After m t (forestOf m t) calls → (e : Element) → Needed m t rs e ↔ called (forestOf m t) (markedElements m t rs ∷ calls) e
+pub needed-called : (m : Mesh) (t : ℕ) (calls : List (List Element)) (rs : List ℕ) → After m t (forestOf m t) calls → (e : Element) → Needed m t rs e ↔ called (forestOf m t) (markedElements m t rs ∷ calls) e
 unfolding called
 needed-called m t calls rs a e = (forced-monotone there e, forced-monotone back e)
   where
@@ -60,7 +59,3 @@ module _ (P : List Point) (i t : ℕ) {S S' : Skeleton} {rs : List ℕ} (p : Run
     forest = run-finished P i t p y few k .grows .forest;
     splits = λ e. Iff·trans (demanded P i t p y few k e) (needed-called (meshed P S) t calls rs (rw (a .forest) a) e);
   })
-
--- two histories that mark the same elements split the same ones
-pub same-splits : {m m' : Mesh} {t t' : ℕ} {F : Forest} {calls calls' : List (List Element)} → After m t F calls → After m' t' F calls' → ((e : Element) → Marked calls e ↔ Marked calls' e) → (e : Element) → SplitOf m t e ↔ SplitOf m' t' e
-same-splits {F = F} {calls = calls} {calls' = calls'} a b h e = Iff·trans (a .splits e) (Iff·trans (order-free F calls calls' h e) (Iff·symm (b .splits e)))

@@ -78,10 +78,12 @@ module _ {m : Mesh} {i t : ℕ} (g : Grown m i t) where
 
 module _ (P : List Point) {i t : ℕ} {S : Skeleton} {rs : List ℕ} (y : Ready P i t S) where
   pub marked-deep : (r : ℕ) → List·Memᴰ r rs → r < length (S .rows) → rowIn (S .rows) r .depth ≡ 60 → Deep (meshed P S) t rs
+  unfolding Deep
   marked-deep r k h d = record { element = elementOf (meshed P S) t r; needed = needed-mark (meshed P S) t rs r k; deep = placed (y .grown) r h .depth ∙ d }
 
   -- no mark of depth 60, so nothing of depth 60 is needed (000, Theorem 7(c))
   pub not-deep : AllMarkable S rs → Deep (meshed P S) t rs → ⊥
+  unfolding Deep
   not-deep k d = omega (arith, d .deep, forced-shallow (forestOf (meshed P S) t) (largestIn (meshed P S) i) (colourIn (meshed P S) i) (coloured (y .grown)) 20 shallow (d .element) (d .needed) .shallow)
     where
       markable : (r : ℕ) → Markable S r → rowIn (S .rows) r .depth < 60

@@ -1,6 +1,6 @@
 -- The leaf sum on tables (01, "Closure"): under each root the leaves' weights add up to one, and the list they are taken over has each leaf of the mesh once.
-use mathlib.Core.Path.{_≡_}
-use mathlib.Core.Bool.{Bool, true, decide-iff, and-eq-true-iff}
+use mathlib.Core.Path.{_≡_, refl, sym, _∙_}
+use mathlib.Core.Bool.{Bool, true, false, true≢false, decide-iff, and-eq-true-iff}
 use mathlib.Core.List.{List, [], _∷_, List·Memᴰ, List·Nodup}
 use mathlib.Core.Logic.{_↔_, Iff·trans}
 use Prim.Native.Nat.{ℕ, _^_, _<_}
@@ -13,6 +13,7 @@ use Rattle.tables.specs.Mesh.{Mesh}
 use Rattle.forest.specs.Element.{Element, el, depth}
 use Rattle.forest.specs.Closed.{Present, Leaf, Closed}
 use Rattle.forest.specs.LeafSum.{leavesFrom, total}
+use Rattle.forest.proofs.Forced.{present-in}
 use Rattle.forest.proofs.LeafSum.{leaf-sum, leaves-once, forest-leaves}
 use Rattle.intake.proofs.laws.Search.{any-has, any-some}
 use Rattle.sound.specs.Sound.{rows, rowOf, Grown, Conforming}
@@ -22,7 +23,6 @@ use Rattle.sound.proofs.laws.Splits.{splits-closed, present-row, leaf-row}
 use Rattle.run.specs.Ready.{Ready}
 use Rattle.run.specs.Skeleton.{Skeleton, meshed}
 use Rattle.run.specs.Leaves.{LeafOf, element-same, splitAs, splitIn}
-use Rattle.run.proofs.laws.Runs.{present-in}
 use Rattle.run.proofs.laws.Demanded.{split-shallow}
 
 -- ---- the test
@@ -41,6 +41,14 @@ module _ (m : Mesh) (t : ℕ) (e : Element) where
 
   pub split-in : splitIn m t e ≡ true ↔ SplitOf m t e
   split-in = (split-from, split-to)
+
+-- which elements are split can be told from the rows
+pub split-told : (m : Mesh) (t : ℕ) (e : Element) → Dec (SplitOf m t e)
+split-told m t e = go (splitIn m t e) refl
+  where
+    go : (b : Bool) → splitIn m t e ≡ b → Dec (SplitOf m t e)
+    go true q = yes (split-in m t e .0 q)
+    go false q = no (λ s. true≢false (sym (split-in m t e .1 s) ∙ q))
 
 -- ---- the leaves
 

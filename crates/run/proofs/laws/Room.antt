@@ -23,7 +23,7 @@ use Rattle.sound.proofs.laws.Placed.{placed, middle-name}
 use Rattle.run.specs.Ready.{Ready}
 use Rattle.run.specs.Skeleton.{Skeleton, meshed}
 use Rattle.run.specs.Run.{RunAll, Within, Over, vertices as over-vertices, rows as over-rows}
-use Rattle.run.specs.Demand.{Needed, Halved, Outgrows, vertices as more-vertices, rows as more-rows}
+use Rattle.run.specs.Demand.{HalvedIn, vertices as more-vertices, rows as more-rows, Needed, Outgrows}
 use Rattle.run.proofs.laws.Few.{Numbered, few, Listing, listing}
 use Rattle.run.proofs.laws.Grows.{Grows}
 use Rattle.run.proofs.laws.Runs.{Inside}
@@ -111,16 +111,18 @@ module _ {m : Mesh} {i t : ℕ} (g : Grown m i t) where
 -- ---- a call that is accepted
 
 module _ (P : List Point) (i t : ℕ) {S S' : Skeleton} {rs : List ℕ} (p : RunAll S rs S') (y : Ready P i t S) (few : length (S' .records) < 4294967295) (k : AllMarkable S rs) where
-  halved-middle : (x : Name) → Halved (meshed P S) t rs x → Middle (meshed P S') t x
+  halved-middle : (x : Name) → HalvedIn (forestOf (meshed P S) t) (Needed (meshed P S) t rs) x → Middle (meshed P S') t x
   halved-middle x h = record { element = h .element; split = demanded P i t p y few k (h .element) .1 (h .needed); is = rw (run-finished P i t p y few k .grows .forest) (h .is) }
 
   pub enough-room : (room : Counts) → Within room S' → Outgrows room (meshed P S) i t rs → ⊥
+  unfolding Outgrows
   enough-room room w (more-rows es o h l) = omega (arith, w .rows, l, splits-few (run-finished P i t p y few k .ready .grown) o (λ e j. demanded P i t p y few k e .1 (h e j)))
   enough-room room w (more-vertices xs o h l) = omega (arith, w .vertices, l, middles-few (run-finished P i t p y few k .ready .grown) o (λ x j. halved-middle x (h x j)))
 
 -- ---- a mesh over the room
 
 pub over-outgrows : (P : List Point) (i t : ℕ) {S T : Skeleton} {rs : List ℕ} {room : Counts} → Ready P i t T → Grows (meshed P S) (meshed P T) i t → Inside (meshed P T) t (Needed (meshed P S) t rs) → Over room T → Outgrows room (meshed P S) i t rs
+unfolding Outgrows
 over-outgrows P i t {S} {T} {rs} y g d (over-rows l) = more-rows (splits-list (y .grown) .list) (splits-list (y .grown) .once) (λ e k. d e (splits-each (y .grown) e k)) (omega (arith, l, splits-size (y .grown)))
 over-outgrows P i t {S} {T} {rs} y g d (over-vertices l) =
     more-vertices (middles-list (y .grown) .list) (middles-list (y .grown) .once)

@@ -11,8 +11,9 @@ use Rattle.split.specs.declared.point.Point.{Point}
 use Rattle.split.specs.Split.{Side}
 use Rattle.split.specs.Row.{edgeOf}
 use Rattle.tables.specs.Mesh.{Mesh}
-use Rattle.forest.specs.Element.{Forest, Element, el, shape, HoldsEdge}
-use Rattle.forest.specs.Closed.{Present, Closed}
+use Rattle.forest.specs.Element.{Forest, Element, shape, HoldsEdge}
+use Rattle.forest.specs.Closed.{Closed}
+use Rattle.forest.proofs.Forced.{present-in}
 use Rattle.intake.specs.declared.answer.Found.the-variants.{At, Nowhere}
 use Rattle.sound.specs.Sound.{vertices, rows, rowOf, Grown}
 use Rattle.sound.specs.Forest.{forestOf, colourIn, largestIn, elementOf, SplitOf}
@@ -36,11 +37,6 @@ pub record Refined (P : List Point) (i t : ℕ) (S S' : Skeleton) (r : ℕ) (Z :
   pub split : rowIn (S' .rows) r .child ≡ 0 → ⊥
   pub falls : (q : ℕ) → q < length (S' .rows) → (rowIn (S' .rows) q .child ≡ 0 → ⊥) → Split (meshed P S) q ⊎ (edgeRank (meshed P S') i t q ≤ edgeRank (meshed P S) i t r)
   pub inside : Inside (meshed P S') t Z
-
--- what is in the mesh of a smaller set of splits is in that of a greater one
-pub present-in : (F : Forest) (A Z : Element → Type 0) → ((e : Element) → A e → Z e) → (e : Element) → Present F A e → Present F Z e
-present-in F A Z f (el k []) h = h
-present-in F A Z f (el k (s ∷ p)) h = f (el k p) h
 
 pub rank-kept : {m m' : Mesh} {i t : ℕ} → Grows m m' i t → (r : ℕ) → r < rows m → edgeRank m' i t r ≡ edgeRank m i t r
 rank-kept g r h = rw (g .largest, g .colour, g .forest, g .element r h)

@@ -6,10 +6,13 @@ use Rattle.frame.proofs.points.fill.Statement.{statement}
 use Rattle.frame.proofs.points.fill.Tie as tie
 
 abbrev Inv-loop : tie.InvT-loop
-Inv-loop points₀ records from to v₀ points v = Stepping (withPoint records) points₀ from to points v
+Inv-loop points₀ records from to end v₀ points v = Stepping (withPoint records) points₀ from end points v
 
 abbrev μ-loop : tie.MeasureT-loop
-μ-loop points₀ records from to v₀ points v = to - v
+μ-loop points₀ records from to end v₀ points v = end - v
+
+least-requires : tie.Need-least-requires Inv-loop μ-loop
+least-requires c κs = search (stepping, needs)
 
 loop-holds : tie.Need-loop-holds Inv-loop μ-loop
 loop-holds c = search (stepping, needs)
@@ -38,6 +41,7 @@ fill-spec =
     (tie.spec
     Inv-loop
     μ-loop
+    least-requires
     loop-holds
     fill-point-requires
     add-v

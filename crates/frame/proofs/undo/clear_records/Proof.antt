@@ -6,10 +6,13 @@ use Rattle.frame.proofs.undo.clear_records.Statement.{statement}
 use Rattle.frame.proofs.undo.clear_records.Tie as tie
 
 abbrev Inv-loop : tie.InvT-loop
-Inv-loop records₀ from to k₀ records k = Stepping withoutRecord records₀ from to records k
+Inv-loop records₀ from to end k₀ records k = Stepping withoutRecord records₀ from end records k
 
 abbrev μ-loop : tie.MeasureT-loop
-μ-loop records₀ from to k₀ records k = to - k
+μ-loop records₀ from to end k₀ records k = end - k
+
+least-requires : tie.Need-least-requires Inv-loop μ-loop
+least-requires c κs = search (stepping, needs)
 
 loop-holds : tie.Need-loop-holds Inv-loop μ-loop
 loop-holds c = search (stepping, needs)
@@ -38,6 +41,7 @@ clear-records-spec =
     (tie.spec
     Inv-loop
     μ-loop
+    least-requires
     loop-holds
     clear-record-requires
     add-k

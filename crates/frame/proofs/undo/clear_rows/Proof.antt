@@ -6,10 +6,13 @@ use Rattle.frame.proofs.undo.clear_rows.Statement.{statement}
 use Rattle.frame.proofs.undo.clear_rows.Tie as tie
 
 abbrev Inv-loop : tie.InvT-loop
-Inv-loop rows₀ from to k₀ rows k = Stepping withoutRow rows₀ from to rows k
+Inv-loop rows₀ from to end k₀ rows k = Stepping withoutRow rows₀ from end rows k
 
 abbrev μ-loop : tie.MeasureT-loop
-μ-loop rows₀ from to k₀ rows k = to - k
+μ-loop rows₀ from to end k₀ rows k = end - k
+
+least-requires : tie.Need-least-requires Inv-loop μ-loop
+least-requires c κs = search (stepping, needs)
 
 loop-holds : tie.Need-loop-holds Inv-loop μ-loop
 loop-holds c = search (stepping, needs)
@@ -38,6 +41,7 @@ clear-rows-spec =
     (tie.spec
     Inv-loop
     μ-loop
+    least-requires
     loop-holds
     clear-row-requires
     add-k

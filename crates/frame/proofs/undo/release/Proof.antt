@@ -6,10 +6,13 @@ use Rattle.frame.proofs.undo.release.Statement.{statement}
 use Rattle.frame.proofs.undo.release.Tie as tie
 
 abbrev Inv-loop : tie.InvT-loop
-Inv-loop rows₀ n k₀ rows k = Stepping (withRestored n) rows₀ 0 n rows k
+Inv-loop rows₀ n end k₀ rows k = Stepping (withRestored n) rows₀ 0 end rows k
 
 abbrev μ-loop : tie.MeasureT-loop
-μ-loop rows₀ n k₀ rows k = n - k
+μ-loop rows₀ n end k₀ rows k = end - k
+
+least-requires : tie.Need-least-requires Inv-loop μ-loop
+least-requires c κs = search (stepping, needs)
 
 loop-holds : tie.Need-loop-holds Inv-loop μ-loop
 loop-holds c = search (stepping, needs)
@@ -38,6 +41,7 @@ release-spec =
     (tie.spec
     Inv-loop
     μ-loop
+    least-requires
     loop-holds
     release-row-requires
     add-k
