@@ -7,6 +7,7 @@ pub mod Arranged
 pub mod Reopened
 pub mod Again
 pub mod Laid
+pub mod Bounded
 pub mod Opened
 pub mod Deciding
 pub mod Afresh
@@ -15,5 +16,6 @@ pub mod Elements
 pub mod Placed
 pub mod Leaves
 pub mod Offspring
+pub mod OneParent
 pub mod Splits
 pub mod Count

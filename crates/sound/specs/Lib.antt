@@ -1,3 +1,4 @@
 pub mod Sound
 pub mod Check
 pub mod Forest
+pub mod Follows
