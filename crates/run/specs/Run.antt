@@ -83,6 +83,11 @@ pub data RunAll : Skeleton → List ℕ → Skeleton → Type 0 where
   passed : {S S' : Skeleton} {r : ℕ} {rs : List ℕ} → (rowIn (S .rows) r .child ≡ 0 → ⊥) → RunAll S rs S' → RunAll S (r ∷ rs) S'
   refined : {S T S' : Skeleton} {r : ℕ} {rs : List ℕ} → rowIn (S .rows) r .child ≡ 0 → Run S r T → RunAll T rs S' → RunAll S (r ∷ rs) S'
 
+-- one call after the other, each given by its marks (01, "Small meshes worked out")
+pub data Calls : Skeleton → List (List ℕ) → Skeleton → Type 0 where
+  ended : {S S' : Skeleton} → S' ≡ S → Calls S [] S'
+  called : {S T S' : Skeleton} {rs : List ℕ} {calls : List (List ℕ)} → RunAll S rs T → Calls T calls S' → Calls S (rs ∷ calls) S'
+
 -- ---- room
 
 pub record Within (room : Counts) (S : Skeleton) : Type 0 where

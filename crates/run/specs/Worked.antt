@@ -1,20 +1,25 @@
--- W1 to W10 (01, "Small meshes worked out") as one table: what is opened, the calls, and the whole tables after them.
+-- W1 to W10 (01, "Small meshes worked out") as one table: what is opened, the calls, and the whole tables after them. `Comes` is what is proved of each case.
+use mathlib.Core.Path.{_≡_}
 use mathlib.Core.Bool.{cond}
 use mathlib.Core.List.{List, [], _∷_, _++_, map}
 use mathlib.Core.Option.{Option, none, some}
-use Prim.Native.Nat.{ℕ, zero, suc, _*_, _/_}
+use Prim.Native.Nat.{ℕ, zero, suc, _+_, _*_, _/_}
 use lib.Dec.{eqb}
 use lib.ListN.{length, replicate}
+use lib.Ieee.{Float}
 use Rattle.split.specs.declared.row.Row.{Row}
 use Rattle.split.specs.Split.{left, right}
 use Rattle.tables.specs.declared.record.Record.{Record}
-use Rattle.tables.specs.Layout.{noFloat}
+use Rattle.tables.specs.Layout.{noFloat, pointWidth, recordWidth, rowWidth}
 use Rattle.tables.specs.Mesh.{Mesh}
 use Rattle.forest.specs.Element.{Element, el}
-use Rattle.opening.specs.Opening.{initial, openedMesh}
+use Rattle.intake.specs.declared.answer.Verdict.{Verdict}
+use Rattle.intake.specs.declared.answer.Verdict.the-variants.{Passed}
+use Rattle.opening.specs.Opening.{initial, judged, openedMesh}
 use Rattle.sound.specs.Sound.{rowOf}
 use Rattle.sound.specs.Forest.{elementOf}
-use Rattle.run.specs.Skeleton.{Skeleton, skeleton}
+use Rattle.run.specs.Skeleton.{Skeleton, skeleton, meshed}
+use Rattle.run.specs.Run.{Calls}
 use Rattle.run.specs.Compute.{refineCalls}
 
 -- elements are opened over as many vertices as there are colours; then come the calls, each given by its marks
@@ -76,24 +81,53 @@ worked =
     fromW7 ((0 ∷ 2 ∷ []) ∷ []) (of 3 4 ∷ of 0 3 ∷ of 2 4 ∷ []) (row 0 1 2 3 3 0 5 0 ∷ row 4 0 1 3 3 1 3 0 ∷ row 4 0 1 2 3 2 9 0 ∷ row 4 0 1 5 2 1 0 1 ∷ row 0 1 3 5 2 1 7 1 ∷ row 0 1 2 6 2 0 0 1 ∷ row 1 2 3 6 2 0 0 1 ∷ row 0 1 6 5 1 4 0 2 ∷ row 1 3 6 5 1 4 0 2 ∷ row 4 0 1 7 2 2 0 1 ∷ row 0 1 2 7 2 2 0 1 ∷ []) (el 0 [] ∷ el 1 [] ∷ el 2 [] ∷ el 1 (right ∷ []) ∷ []) ∷
     []
 
--- what comes out: records, rows, and the elements of the split rows
-pub record Outcome : Type 0 where
-  pub tables : Skeleton
-  pub splits : List Element
+-- ---- what comes out
+
+-- all coordinates zero: they do not matter
+abbrev pub coordinates : Case → List Float
+coordinates c = replicate (pointWidth * length (c .colours)) noFloat
+
+-- what opening says of the case, with tables lent that just hold what comes out
+abbrev pub verdict : Case → Verdict
+verdict c = let vertices = length (c .colours) + length (c .midpoints) in judged (coordinates c) (c .elements) (pointWidth * vertices) (recordWidth * vertices) (rowWidth * length (c .rows))
+
+-- records and rows as opened
+abbrev pub start : Case → Skeleton
+start c = skeleton (openedMesh (coordinates c) (c .elements))
+
+-- records and rows by the table
+abbrev pub end : Case → Skeleton
+end c = record { records = map initial (c .colours) ++ c .midpoints; rows = c .rows }
 
 -- the elements of the split rows below n, in row order
 unfoldable pub splitsBelow : Mesh → ℕ → ℕ → List Element
 splitsBelow m t zero = []
 splitsBelow m t (suc n) = splitsBelow m t n ++ cond (eqb (rowOf m n .child) 0) [] (elementOf m t n ∷ [])
 
-abbrev seen : ℕ → Option Skeleton → Option Outcome
-seen t none = none
-seen t (some S) = some (record { tables = S; splits = splitsBelow (record { points = []; records = S .records; rows = S .rows }) t (length (S .rows)) })
+abbrev pub splitsOf : Case → Skeleton → List Element
+splitsOf c S = splitsBelow (meshed [] S) (length (c .elements) / 4) (length (S .rows))
 
--- by the definitions of opening and closure; coordinates do not matter
+-- the case comes out as the table says: opening accepts, the calls lead from what is opened to the tables written there, and these split the elements written there
+pub record Comes (c : Case) : Type 0 where
+  pub opens : verdict c ≡ Passed
+  pub runs : Calls (start c) (c .calls) (end c)
+  pub splits : splitsOf c (end c) ≡ c .splits
+
+-- ---- the same as one test
+
+pub record Outcome : Type 0 where
+  pub opens : Verdict
+  pub tables : Skeleton
+  pub splits : List Element
+
+abbrev pub seen : Case → Option Skeleton → Option Outcome
+seen c none = none
+seen c (some S) = some (record { opens = verdict c; tables = S; splits = splitsOf c S })
+
+-- by the definitions of opening and closure
 unfoldable pub computed : Case → Option Outcome
-computed c = seen (length (c .elements) / 4) (refineCalls 4 (skeleton (openedMesh (replicate (3 * length (c .colours)) noFloat) (c .elements))) (c .calls))
+computed c = seen c (refineCalls 4 (start c) (c .calls))
 
 -- by the table
 unfoldable pub expected : Case → Option Outcome
-expected c = some (record { tables = record { records = map initial (c .colours) ++ c .midpoints; rows = c .rows }; splits = c .splits })
+expected c = some (record { opens = Passed; tables = end c; splits = c .splits })

@@ -10,7 +10,7 @@ use lib.Dec.{eqb}
 use Rattle.intake.specs.declared.answer.Found.{Found}
 use Rattle.intake.specs.declared.answer.Found.the-variants.{At, Nowhere}
 use Rattle.run.specs.Skeleton.{Skeleton, rowIn}
-use Rattle.run.specs.Run.{blocking, splitPatch, Run, clear, blocked, RunAll, done, passed, refined}
+use Rattle.run.specs.Run.{blocking, splitPatch, Run, clear, blocked, RunAll, done, passed, refined, Calls, ended, called}
 use Rattle.run.specs.Compute.{andThen, refine, refineAll, refineCalls}
 
 -- where there is a result, there was one to go on from
@@ -44,7 +44,8 @@ refine-all-runs n S S' (r ∷ rs) e = go (eqb (rowIn (S .rows) r .child) 0) refl
     go true k h rest = let w = went (refine n S r) (λ T. refineAll n T rs) S' h in refined (eqb-true _ _ k) (refine-runs n S (w .between) r (w .first)) (rest (w .between) (w .second))
     go false k h rest = passed (eqb-false _ _ k) (rest S h)
 
--- and the same of the first of several calls
-pub refine-calls-runs : (n : ℕ) (S S' : Skeleton) (c : List ℕ) (cs : List (List ℕ)) → refineCalls n S (c ∷ cs) ≡ some S' → (T : Skeleton) × RunAll S c T × (refineCalls n T cs ≡ some S')
+-- and the same of calls
+pub refine-calls-runs : (n : ℕ) (S S' : Skeleton) (calls : List (List ℕ)) → refineCalls n S calls ≡ some S' → Calls S calls S'
 unfolding refineCalls
-refine-calls-runs n S S' c cs e = let w = went (refineAll n S c) (λ T. refineCalls n T cs) S' e in (w .between, refine-all-runs n S (w .between) c (w .first), w .second)
+refine-calls-runs n S S' [] e = ended (same-result e)
+refine-calls-runs n S S' (rs ∷ calls) e = let w = went (refineAll n S rs) (λ T. refineCalls n T calls) S' e in called (refine-all-runs n S (w .between) rs (w .first)) (refine-calls-runs n (w .between) S' calls (w .second))
