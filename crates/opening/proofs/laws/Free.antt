@@ -44,15 +44,7 @@ module _ (taken : ℕ → Bool) where
   pub free-not : (n : ℕ) → free taken n < n → taken (free taken n) ≡ false
   free-not n = free-is n .out
 
-  -- no smaller number is free
-  pub free-least : (n c : ℕ) → taken c ≡ false → free taken n ≤ c
-  free-least n c t = go (decLt c (free taken n))
-    where
-      go : Dec (c < free taken n) → free taken n ≤ c
-      go (yes h) = absurd (true≢false (sym (free-taken n c h) ∙ t))
-      go (no h) = omega arith
-
-  -- and no other number is the smallest
+  -- no other number is the smallest
   pub free-only : (n m : ℕ) → m ≤ n → ((c : ℕ) → c < m → taken c ≡ true) → (m < n → taken m ≡ false) → free taken n ≡ m
   free-only n m h under out = go (decLt (free taken n) m) (decLt m (free taken n))
     where

@@ -71,10 +71,6 @@ source-other : (s : Side) (g : Tag) (p : ℕ) → p < number g → source s p �
 source-other left g p h e = omega arith
 source-other right g p h e = omega arith
 
-source-apart : (s : Side) (p q : ℕ) → source s p ≡ source s q → p ≡ q
-source-apart left p q e = e
-source-apart right p q e = omega arith
-
 lacked-le : (s : Side) (g : Tag) → lacked s g ≤ number g
 lacked-le left g = omega arith
 lacked-le right g = omega arith
@@ -110,36 +106,6 @@ module _ {A : Type 0} (n : ℕ) (c : Corners A) (m : A) (s : Side) (g : Tag) (lo
 
   pub lacks : Distinct n c → (m ≡ at c (lacked s g) → ⊥) → Holds n (child s g c m) (at c (lacked s g)) → ⊥
   lacks d fresh h = elim (parts h) [ inl e ↦ fresh (sym e) | inr k ↦ k .other (d .apart (k .place) (lacked s g) (k .inside) (omega (arith, lacked-le s g)) (k .is)) ]
-
-  pub distinct-child : Distinct n c → (Holds n c m → ⊥) → Distinct n (child s g c m)
-  distinct-child d fresh = record { apart = λ p q hp hq e. go p q hp hq e (against p (number g)) (against q (number g)) }
-    where
-      new : (p q : ℕ) → p ≡ number g → at (child s g c m) p ≡ at (child s g c m) q → at (child s g c m) q ≡ m
-      new p q i e = sym e ∙ ap (at (child s g c m)) i ∙ at-new c m s g
-
-      not-low : (q : ℕ) → q < number g → at (child s g c m) q ≡ m → ⊥
-      not-low q l e = fresh (record { place = source s q; inside = omega (arith, source-le s g q l); is = sym (at-low c m s g q l) ∙ e })
-
-      not-high : (q : ℕ) → number g < q → q ≤ n → at (child s g c m) q ≡ m → ⊥
-      not-high q l h e = fresh (record { place = q; inside = h; is = sym (at-high c m s g q l (omega arith)) ∙ e })
-
-      crossed : (p q : ℕ) → p < number g → number g < q → q ≤ n → at (child s g c m) p ≡ at (child s g c m) q → ⊥
-      crossed p q l h k e =
-          let i : source s p ≡ q = d .apart (source s p) q (omega (arith, source-le s g p l)) k (sym (at-low c m s g p l) ∙ e ∙ at-high c m s g q h (omega arith)) in
-          omega (arith, source-le s g p l)
-
-      go : (p q : ℕ) → p ≤ n → q ≤ n → at (child s g c m) p ≡ at (child s g c m) q → Against p (number g) → Against q (number g) → p ≡ q
-      go p q hp hq e (less l) (less k) =
-          source-apart s p q
-          (d .apart (source s p) (source s q) (omega (arith, source-le s g p l)) (omega (arith, source-le s g q k)) (sym (at-low c m s g p l) ∙ e ∙ at-low c m s g q k))
-      go p q hp hq e (less l) (equal k) = absurd (not-low p l (new q p k (sym e)))
-      go p q hp hq e (less l) (more k) = absurd (crossed p q l k hq e)
-      go p q hp hq e (equal l) (less k) = absurd (not-low q k (new p q l e))
-      go p q hp hq e (equal l) (equal k) = l ∙ sym k
-      go p q hp hq e (equal l) (more k) = absurd (not-high q k hq (new p q l e))
-      go p q hp hq e (more l) (less k) = absurd (crossed q p k l hp (sym e))
-      go p q hp hq e (more l) (equal k) = absurd (not-high p l hp (new q p k (sym e)))
-      go p q hp hq e (more l) (more k) = d .apart p q hp hq (sym (at-high c m s g p l (omega arith)) ∙ e ∙ at-high c m s g q k (omega arith))
 
 -- neither child holds both ends of the edge
 pub not-both : {A : Type 0} (n : ℕ) (c : Corners A) (m : A) (s : Side) (g : Tag) → number g ≤ n → n ≤ 3 → Distinct n c → (Holds n c m → ⊥)

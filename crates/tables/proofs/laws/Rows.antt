@@ -13,7 +13,7 @@ use Rattle.tables.specs.Layout.{rowWidth, rowCells, rowFrom, noRow, rowA
 use Rattle.tables.specs.Layout.{recordWidth, recordCells, recordFrom, noRecord, recordAt, putRecord}
 use Rattle.tables.specs.Layout.{pointWidth, pointCells, pointFrom, noPoint, pointAt, putPoint}
 use Rattle.tables.proofs.laws.Parts.{run-part}
-use Rattle.tables.proofs.laws.Table.{Table, length-put, at-put, at-put-other}
+use Rattle.tables.proofs.laws.Table.{Table, length-put, at-put}
 
 pub rows : Table rowWidth rowCells rowFrom noRow rowAt putRow
 unfolding rowAt putRow
@@ -55,9 +55,6 @@ length-put-row = length-put rows
 pub row-put : (l : List ℕ) (k : ℕ) (r : Row) → k < length l / rowWidth → rowAt (putRow l k r) k ≡ r
 row-put = at-put rows
 
-pub row-put-other : (l : List ℕ) (k : ℕ) (r : Row) → k < length l / rowWidth → (j : ℕ) → j < length l / rowWidth → (j ≡ k → ⊥) → rowAt (putRow l k r) j ≡ rowAt l j
-row-put-other = at-put-other rows
-
 -- a record put and then read
 pub length-put-record : (l : List ℕ) (k : ℕ) (r : Record) → length (putRecord l k r) ≡ length l
 length-put-record = length-put records
@@ -65,15 +62,9 @@ length-put-record = length-put records
 pub record-put : (l : List ℕ) (k : ℕ) (r : Record) → k < length l / recordWidth → recordAt (putRecord l k r) k ≡ r
 record-put = at-put records
 
-pub record-put-other : (l : List ℕ) (k : ℕ) (r : Record) → k < length l / recordWidth → (j : ℕ) → j < length l / recordWidth → (j ≡ k → ⊥) → recordAt (putRecord l k r) j ≡ recordAt l j
-record-put-other = at-put-other records
-
 -- a point put and then read
 pub length-put-point : (l : List Float) (k : ℕ) (p : Point) → length (putPoint l k p) ≡ length l
 length-put-point = length-put points
 
 pub point-put : (l : List Float) (k : ℕ) (p : Point) → k < length l / pointWidth → pointAt (putPoint l k p) k ≡ p
 point-put = at-put points
-
-pub point-put-other : (l : List Float) (k : ℕ) (p : Point) → k < length l / pointWidth → (j : ℕ) → j < length l / pointWidth → (j ≡ k → ⊥) → pointAt (putPoint l k p) j ≡ pointAt l j
-point-put-other = at-put-other points

@@ -34,6 +34,3 @@ module _ (l : List ℕ) (count row : ℕ) where
 
     pub length-shown : length (shown l count row) ≡ 4
     length-shown = ap length shown-row
-
-    pub shown-some : shown l count row ≡ [] → ⊥
-    shown-some e = omega (arith, length-shown, ap length e)
