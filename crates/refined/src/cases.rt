@@ -1,10 +1,21 @@
-// W2 to W10, their room, and the refusals 9, 10 and 2.
+// W2 to W10 with their coordinates, their room, and the refusals 9, 10 and 2; after each call whether the tables are sound.
 use crate::show;
 use closure::answer::Refined;
 use libc::STDOUT_FILENO;
 use opening::answer::Opened;
 use tables::layout::Counts;
 ghost use Prim.Native.Nat.{_≤_};
+
+// The counts that hold after a call.
+pub fn after(r: Refined, c: Counts) -> Counts {
+    match r {
+        Refined::Done { counts, splits: _ } => counts,
+        Refined::Refused {
+            number: _,
+            place: _,
+        } => c,
+    }
+}
 
 // One call; answers the counts that hold afterwards.
 fn call(
@@ -16,13 +27,9 @@ fn call(
 ) -> Counts {
     let r = closure::refine(points, records, rows, c, marks);
     show::answer(r);
-    match r {
-        Refined::Done { counts, splits: _ } => counts,
-        Refined::Refused {
-            number: _,
-            place: _,
-        } => c,
-    }
+    let d = after(r, c);
+    show::sound(soundness::check(points, records, rows, d));
+    d
 }
 
 // The leaves and their levels, in lists for twelve.
@@ -43,17 +50,43 @@ fn short(points: &[f64], records: &[u32], rows: &[u32], c: Counts) {
     show::table(&levels);
 }
 
+// Row 8 (in W8 the last, a leaf), the row at the count, and row 0 with a count too large for the table.
+fn shown(rows: &[u32], count: usize) {
+    show::element(rows, count, 8);
+    show::element(rows, count, count);
+    show::element(rows, rows.len() / 8 + 1, 0);
+}
+
 // One call on what was opened, if anything.
 fn first(r: Opened, points: &mut [f64], records: &mut [u32], rows: &mut [u32], marks: &[u32]) {
     if let Opened::Done(c) = r {
         let d = call(points, records, rows, c, marks);
         listed(points, records, rows, d);
+        shown(rows, d.rows);
         return;
     }
     show::end_line();
 }
 
-// Opens the elements over a line of points, refines the marks in one call, and shows the tables.
+// The origin, the three unit points, and (1, 1, 1).
+fn corners() -> [f64; 15] {
+    let mut at = [0.0f64; 15];
+    at[3] = 1.0;
+    at[7] = 1.0;
+    at[11] = 1.0;
+    at[12] = 1.0;
+    at[13] = 1.0;
+    at[14] = 1.0;
+    at
+}
+
+fn whole(points: &[f64], records: &[u32], rows: &[u32]) {
+    show::points(points);
+    show::table(records);
+    show::table(rows);
+}
+
+// Opens the elements over five points, refines the marks in one call, and shows the tables.
 fn each(
     elements: &[u32],
     points: &mut [f64],
@@ -61,11 +94,9 @@ fn each(
     rows: &mut [u32],
     marks: &[u32],
 ) {
-    let line = [0.5f64; 15];
-    let r = opening::open(&line, elements, points, records, rows);
+    let r = opening::open(&corners(), elements, points, records, rows);
     first(r, points, records, rows, marks);
-    show::table(records);
-    show::table(rows);
+    whole(points, records, rows);
 }
 
 // The same in tables of the given room that hold 7 everywhere.
@@ -101,11 +132,10 @@ fn thrice(r: Opened, points: &mut [f64], records: &mut [u32], rows: &mut [u32]) 
 }
 
 fn grown(points: &mut [f64], records: &mut [u32], rows: &mut [u32]) {
-    let line = [0.5f64; 12];
-    let r = opening::open(&line, &[0, 1, 2, 3], points, records, rows);
+    let at = corners();
+    let r = opening::open(&at[0..12], &[0, 1, 2, 3], points, records, rows);
     thrice(r, points, records, rows);
-    show::table(records);
-    show::table(rows);
+    whole(points, records, rows);
 }
 
 fn single() {

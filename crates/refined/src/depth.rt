@@ -1,6 +1,6 @@
 // A leaf of depth 60, marked: number 11, also where there is no room for another mark's split.
+use crate::cases;
 use crate::show;
-use closure::answer::Refined;
 use libc::STDOUT_FILENO;
 use opening::answer::Opened;
 use tables::layout::Counts;
@@ -39,14 +39,7 @@ fn deepest(rows: &[u32], n: usize) -> u32 {
 
 fn step(points: &mut [f64], records: &mut [u32], rows: &mut [u32], c: Counts) -> Counts {
     let mark = deepest(rows, c.rows);
-    let r = closure::refine(points, records, rows, c, &[mark]);
-    match r {
-        Refined::Done { counts, splits: _ } => counts,
-        Refined::Refused {
-            number: _,
-            place: _,
-        } => c,
-    }
+    cases::after(closure::refine(points, records, rows, c, &[mark]), c)
 }
 
 // Sixty calls, each on the deepest leaf.

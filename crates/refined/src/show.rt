@@ -1,4 +1,4 @@
-// One line of output for an answer or a table.
+// One line of output for an answer, a table, a shown element.
 use closure::answer::Refined;
 use leaves::answer::Listed;
 use libc::STDOUT_FILENO;
@@ -24,6 +24,36 @@ pub fn table(t: &[u32]) {
         i += 1;
     }
     end_line();
+}
+
+// The bit pattern as 16 hex digits.
+fn coordinate(x: f64) {
+    io::write_all(STDOUT_FILENO, b" ");
+    io::print_hex(STDOUT_FILENO, fields::bits(x), 16);
+}
+
+// All coordinates of a table on one line.
+pub fn points(t: &[f64]) {
+    let mut i = 0usize;
+    while i < t.len() {
+        coordinate(t[i]);
+        i += 1;
+    }
+    end_line();
+}
+
+pub fn sound(yes: bool) {
+    if yes {
+        io::write_all(STDOUT_FILENO, b"sound yes\n");
+    } else {
+        io::write_all(STDOUT_FILENO, b"sound no\n");
+    }
+}
+
+// The part of the table with the vertex numbers of a row.
+pub fn element(rows: &[u32], count: usize, row: usize) {
+    io::write_all(STDOUT_FILENO, b"element");
+    table(tables::show::element(rows, count, row));
 }
 
 pub fn answer(r: Refined) {
