@@ -1,6 +1,7 @@
 // The worked cases of document 01 that are run, with the cases at the edge of each rule; the expected lines are in `stdout`.
 mod bound;
 mod checks;
+mod colours;
 mod midpoints;
 mod opens;
 mod show;
@@ -10,5 +11,6 @@ fn main() {
     splits::run();
     midpoints::run();
     opens::run();
+    colours::run();
     checks::run();
 }

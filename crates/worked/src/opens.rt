@@ -1,10 +1,10 @@
-// W1, W5 and W7 of document 01 as opened, and a refusal by each number that opening gives but 8.
+// W1, W5 and W7 of document 01 as opened, and a refusal by each number that opening gives but 8 (`colours`).
 use crate::bound::bound;
 use crate::show;
 use libc::STDOUT_FILENO;
 use opening::answer::Opened;
 
-fn answer(r: Opened) {
+pub fn answer(r: Opened) {
     match r {
         Opened::Done(c) => {
             io::write_all(STDOUT_FILENO, b"done");
