@@ -6,3 +6,4 @@ pub mod Sorting
 pub mod Agree
 pub mod Greedy
 pub mod Refusals
+pub mod Demanded

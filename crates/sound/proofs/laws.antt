@@ -9,6 +9,7 @@ pub mod Again
 pub mod Laid
 pub mod Bounded
 pub mod Opened
+pub mod Demanded
 pub mod Deciding
 pub mod Afresh
 pub mod Names

@@ -18,6 +18,7 @@ use Rattle.split.proofs.laws.Places.{le-or-lt}
 use Rattle.tables.specs.declared.layout.Counts.{Counts}
 use Rattle.tables.specs.declared.record.Record.{Record}
 use Rattle.tables.specs.Layout.{pointAt, recordAt}
+use Rattle.tables.proofs.laws.View.{mesh-record, mesh-point}
 use Rattle.tables.specs.Mesh.{Lent, Mesh, meshOf}
 use Rattle.sound.specs.Sound.{vertices, pointOf, recordOf, Grown, Sound}
 use Rattle.closure.specs.declared.answer.Refined.the-variants.{Done}
@@ -25,7 +26,7 @@ use Rattle.closure.specs.Refine.{Refines}
 use Rattle.closure.specs.Exact.{Axis, x-axis, y-axis, z-axis, along, Steps, initial, midpoint, WholeStart}
 use Rattle.closure.proofs.laws.Taken.{sound-vertices}
 use Rattle.closure.proofs.laws.Accepted.{accepted-grows, accepted-counted}
-use Rattle.closure.proofs.laws.Kept.{mesh-record, mesh-point, accepted-kept}
+use Rattle.closure.proofs.laws.Kept.{accepted-kept}
 
 -- ---- a coordinate is one number
 

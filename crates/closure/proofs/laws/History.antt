@@ -5,6 +5,7 @@ use mathlib.Core.Logic.{_↔_, Iff·trans}
 use Prim.Native.Nat.{ℕ, _<_}
 use Rattle.tables.specs.declared.layout.Counts.{Counts}
 use Rattle.tables.specs.Mesh.{Lent, Mesh, meshOf}
+use Rattle.tables.proofs.laws.View.{mesh-row}
 use Rattle.forest.specs.Element.{Forest, Element}
 use Rattle.forest.specs.Closed.{Forced, Smallest}
 use Rattle.forest.specs.History.{Marked}
@@ -20,7 +21,6 @@ use Rattle.closure.specs.History.{markedBy, History, opened, accepted, r
 use Rattle.closure.proofs.laws.Promise.{refused-same}
 use Rattle.closure.proofs.laws.Taken.{taken, sound-mesh, sound-ready, sound-rows}
 use Rattle.closure.proofs.laws.Accepted.{accepted-few, accepted-markable, accepted-mesh, accepted-sound}
-use Rattle.closure.proofs.laws.Kept.{mesh-row}
 use Rattle.closure.proofs.laws.Opened.{Unsplit, opens-unsplit}
 
 -- what a history leads to

@@ -9,7 +9,7 @@ use Rattle.tables.specs.declared.layout.Counts.{Counts}
 use Rattle.tables.specs.declared.record.Record.{Record}
 use Rattle.tables.specs.Layout.{noPoint, noRecord, noRow, pointAt, recordAt, rowAt}
 use Rattle.tables.specs.Mesh.{Lent, Mesh, meshOf}
-use Rattle.tables.proofs.laws.View.{length-up-to, up-to-at}
+use Rattle.tables.proofs.laws.View.{mesh-row, mesh-record, mesh-point, mesh-points}
 use Rattle.sound.specs.Sound.{pointOf, recordOf, rowOf, childless, Sound}
 use Rattle.run.specs.Skeleton.{extended}
 use Rattle.run.proofs.laws.Points.{halfway}
@@ -17,25 +17,6 @@ use Rattle.closure.specs.declared.answer.Refined.the-variants.{Done}
 use Rattle.closure.specs.Refine.{Refines}
 use Rattle.closure.proofs.laws.Taken.{sound-rows, sound-vertices, taken}
 use Rattle.closure.proofs.laws.Accepted.{accepted-mesh, accepted-grows, accepted-counted}
-
--- ---- what a mesh has at a number is what its table has there
-
-module _ (t : Lent) (c : Counts) (k : ℕ) where
-  pub mesh-row : k < c .rows → rowOf (meshOf t c) k ≡ rowAt (t .rows) k
-  unfolding meshOf
-  mesh-row h = up-to-at (rowAt (t .rows)) (c .rows) k noRow h
-
-  pub mesh-record : k < c .vertices → recordOf (meshOf t c) k ≡ recordAt (t .records) k
-  unfolding meshOf
-  mesh-record h = up-to-at (recordAt (t .records)) (c .vertices) k noRecord h
-
-  pub mesh-point : k < c .vertices → pointOf (meshOf t c) k ≡ pointAt (t .points) k
-  unfolding meshOf
-  mesh-point h = up-to-at (pointAt (t .points)) (c .vertices) k noPoint h
-
-pub mesh-points : (t : Lent) (c : Counts) → length (meshOf t c .points) ≡ c .vertices
-unfolding meshOf
-mesh-points t c = length-up-to (pointAt (t .points)) (c .vertices)
 
 -- further midpoints do not move a point
 extended-front : (P : List Point) (rs : List Record) (v : ℕ) → v < length P → getD (extended P rs) v noPoint ≡ getD P v noPoint

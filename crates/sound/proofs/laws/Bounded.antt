@@ -18,7 +18,7 @@ use Rattle.split.proofs.laws.Places.{le-or-lt}
 use Rattle.tables.specs.declared.layout.Counts.{Counts}
 use Rattle.tables.specs.Layout.{noFloat, noPoint, pointCells, pointAt, recordAt}
 use Rattle.tables.specs.Mesh.{Lent, Mesh, flat, meshOf}
-use Rattle.tables.proofs.laws.View.{length-flat, length-up-to, up-to-at}
+use Rattle.tables.proofs.laws.View.{length-flat, length-up-to, mesh-point}
 use Rattle.intake.specs.declared.answer.Found.the-variants.{Nowhere}
 use Rattle.intake.specs.Search.{first}
 use Rattle.intake.specs.Causes.{usable, unusable}
@@ -101,5 +101,4 @@ module _ {t : Lent} {c : Counts} (s : Sound t c) (v : ℕ) (h : v < c .vertices)
 
   -- the coordinates of every used vertex are finite and of magnitude at most 2 ^ 1000
   pub sound-bounded : BoundedPoint (pointAt (t .points) v)
-  unfolding meshOf
-  sound-bounded = rw (← up-to-at (pointAt (t .points)) (c .vertices) v noPoint h) sound-bounded-mesh
+  sound-bounded = rw (← mesh-point t c v h) sound-bounded-mesh

@@ -1,20 +1,21 @@
 -- Opened tables are sound.
-use mathlib.Core.Path.{_≡_, refl, ap, subst}
+use mathlib.Core.Path.{_≡_, refl, sym, ap, subst, _∙_}
 use mathlib.Core.List.{List, map}
 use Prim.Native.Nat.{ℕ, _*_, _/_, _%_, _≤_, _<_}
 use native.Mathlib.Omega.{arith}
 use lib.ListN.{length, take}
 use lib.Ieee.{Float}
 use Rattle.tables.specs.declared.layout.Counts.{Counts}
-use Rattle.tables.specs.Layout.{noRecord, noRow, pointAt, pointWidth, recordWidth, rowWidth}
-use Rattle.tables.specs.Mesh.{flat, laid}
-use Rattle.tables.proofs.laws.View.{Within, countsOf, length-up-to, up-to-at}
+use Rattle.tables.specs.declared.record.Record.{Record}
+use Rattle.tables.specs.Layout.{noPoint, noRecord, noRow, pointAt, pointWidth, recordWidth, rowWidth}
+use Rattle.tables.specs.Mesh.{flat, meshOf, laid}
+use Rattle.tables.proofs.laws.View.{Within, countsOf, length-up-to, up-to-at, mesh-laid}
 use Rattle.intake.specs.declared.answer.Verdict.the-variants.{Passed}
 use Rattle.opening.specs.Colours.{colours, largest}
 use Rattle.opening.specs.Order.{rootOf}
 use Rattle.opening.specs.Opening.{initial, judged, openedMesh}
 use Rattle.opening.proofs.laws.Passed.{roomy-passed}
-use Rattle.sound.specs.Sound.{vertices, rows, recordOf, rowOf, childless, vertexCells, Parted, givenPoints, givenElements, Afresh, Grown, Conforming, Sound}
+use Rattle.sound.specs.Sound.{vertices, rows, pointOf, recordOf, rowOf, childless, vertexCells, Parted, givenPoints, givenElements, Afresh, Grown, Conforming, Sound}
 use Rattle.sound.proofs.laws.Flat.{take-up-to, map-up-to}
 use Rattle.sound.proofs.laws.Tested.{Measured, measured, Roomed, roomed, lent-exact, room-exact, Tested, tested, tested-passes}
 use Rattle.sound.proofs.laws.Reordered.{Reordered}
@@ -26,7 +27,7 @@ use Rattle.sound.proofs.laws.Laid.{laid-sound}
 -- ---- what an opened mesh has at a number
 
 module _ (F : List Float) (E : List ℕ) where
-  opened-points-length : length (openedMesh F E .points) ≡ length F / 3
+  pub opened-points-length : length (openedMesh F E .points) ≡ length F / 3
   unfolding openedMesh
   opened-points-length = length-up-to _ (length F / 3)
 
@@ -34,23 +35,27 @@ module _ (F : List Float) (E : List ℕ) where
   unfolding openedMesh
   opened-vertices = length-up-to _ (length F / 3)
 
-  opened-rows : rows (openedMesh F E) ≡ length E / 4
+  pub opened-rows : rows (openedMesh F E) ≡ length E / 4
   unfolding openedMesh
   opened-rows = length-up-to _ (length E / 4)
 
-  opened-second : (v : ℕ) → v < length F / 3 → recordOf (openedMesh F E) v .second ≡ 4294967295
+  pub opened-point : (v : ℕ) → v < length F / 3 → pointOf (openedMesh F E) v ≡ pointAt F v
   unfolding openedMesh
-  opened-second v h = rw (up-to-at (λ v. initial (shade E (length F / 3) v)) (length F / 3) v noRecord h)
+  opened-point v h = up-to-at (pointAt F) (length F / 3) v noPoint h
 
-  opened-row : (k : ℕ) → k < length E / 4 → rowOf (openedMesh F E) k ≡ rootAmong (length F / 3) E k
+  pub opened-record : (v : ℕ) → v < length F / 3 → recordOf (openedMesh F E) v ≡ initial (shade E (length F / 3) v)
+  unfolding openedMesh
+  opened-record v h = up-to-at (λ v. initial (shade E (length F / 3) v)) (length F / 3) v noRecord h
+
+  pub opened-row : (k : ℕ) → k < length E / 4 → rowOf (openedMesh F E) k ≡ rootAmong (length F / 3) E k
   unfolding openedMesh
   opened-row k h = up-to-at (rootAmong (length F / 3) E) (length E / 4) k noRow h
 
-  opened-parent : (k : ℕ) → k < length E / 4 → rowOf (openedMesh F E) k .parent ≡ k
+  pub opened-parent : (k : ℕ) → k < length E / 4 → rowOf (openedMesh F E) k .parent ≡ k
   unfolding rootOf
   opened-parent k h = rw (opened-row k h)
 
-  opened-leaf : (k : ℕ) → k < length E / 4 → rowOf (openedMesh F E) k .child ≡ 0
+  pub opened-leaf : (k : ℕ) → k < length E / 4 → rowOf (openedMesh F E) k .child ≡ 0
   unfolding rootOf
   opened-leaf k h = rw (opened-row k h)
 
@@ -62,11 +67,11 @@ module _ (F : List Float) (E : List ℕ) where
   no-child : (r : ℕ) → length E / 4 ≤ r → r < rows (openedMesh F E) → ⊥
   no-child r h l = omega (arith, opened-rows)
 
-  opened-parted : Parted (openedMesh F E) (length F / 3) (length E / 4)
+  pub opened-parted : Parted (openedMesh F E) (length F / 3) (length E / 4)
   opened-parted = record {
     vertices-in = omega (arith, opened-vertices);
     rows-in = omega (arith, opened-rows);
-    initial = opened-second;
+    initial = λ v h. ap (λ (r : Record). r .second) (opened-record v h);
     midpoints = λ v h l e. no-midpoint v h l;
     roots = opened-parent;
     children = λ r h l e. no-child r h l;
@@ -118,7 +123,7 @@ module _ (F : List Float) (E : List ℕ) (lp lv lr : ℕ) (t : Tested F E lp lv 
   room : Roomed (length F / 3) (length E / 4) lp lv lr
   room = roomed (length F / 3) (length E / 4) lp lv lr (t .lent) (t .room)
 
-  proper : Proper (shade E (length F / 3)) E
+  pub proper : Proper (shade E (length F / 3)) E
   proper = plain-proper (tested-plain t)
 
   opened-afresh : Afresh (openedMesh F E) (length F / 3) (length E / 4)
@@ -142,10 +147,14 @@ module _ (F : List Float) (E : List ℕ) (lp lv lr : ℕ) (t : Tested F E lp lv 
 
   -- ---- the tables have room, so what the mesh has is what they hold
 
-  within : Within (openedMesh F E) lp lv lr
+  pub within : Within (openedMesh F E) lp lv lr
   within =
       let r = roomy-passed (length F) (length E) lp lv lr (t .input) (t .room) in
       omega (arith, r .points-fit, r .records-fit, r .rows-fit, opened-points-length F E, opened-vertices F E, opened-rows F E)
+
+  -- and the mesh that the tables hold is the opened one
+  pub opened-mesh : meshOf (laid (openedMesh F E) lp lv lr) (record { vertices = length F / 3; rows = length E / 4 }) ≡ openedMesh F E
+  opened-mesh = (λ j. meshOf (laid (openedMesh F E) lp lv lr) (record { vertices = sym (opened-points-length F E) j; rows = sym (opened-rows F E) j })) ∙ mesh-laid (openedMesh F E) lp lv lr within
 
   tested-sound : Sound (laid (openedMesh F E) lp lv lr) (countsOf (openedMesh F E))
   tested-sound =

@@ -91,11 +91,11 @@ module _ {f : ℕ → ℕ} {E : List ℕ} (d : Proper f E) where
   pub proper-single : Single E
   proper-single = record { apart = λ k p q h l m e. d .differ k p q h l m (ap f e) }
 
+  pub proper-corners : (k : ℕ) → k < length E / 4 → (p q : ℕ) → p ≤ 3 → q ≤ 3 → f (at (given E k) p) ≡ f (at (given E k) q) → p ≡ q
+  proper-corners k h p q l m e = d .differ k p q h (omega arith) (omega arith) (ap f (sym (corner-at E k p (omega arith))) ∙ e ∙ ap f (corner-at E k q (omega arith)))
+
   pub sorted-climb : (k : ℕ) → k < length E / 4 → Climbs f (sorted f (given E k))
-  sorted-climb k h = let (a, b, c) = sorted-climbs f (given E k) different in record { first = a; second = b; third = c }
-    where
-      different : (p q : ℕ) → p ≤ 3 → q ≤ 3 → f (at (given E k) p) ≡ f (at (given E k) q) → p ≡ q
-      different p q l m e = d .differ k p q h (omega arith) (omega arith) (ap f (sym (corner-at E k p (omega arith))) ∙ e ∙ ap f (corner-at E k q (omega arith)))
+  sorted-climb k h = let (a, b, c) = sorted-climbs f (given E k) (proper-corners k h) in record { first = a; second = b; third = c }
 
 pub root-reordered : {E E' : List ℕ} {f : ℕ → ℕ} → Reordered E E' → Proper f E → Proper f E' → (N k : ℕ) → k < length E / 4 → rootOf N f E k ≡ rootOf N f E' k
 unfolding rootOf

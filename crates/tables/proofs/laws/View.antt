@@ -9,7 +9,7 @@ use lib.ListN.{length, getD, take, drop, replicate, length-append, length-replic
 use lib.Seq.{take-add, take-at, drop-at, getD-at, length-take-le}
 use Rattle.split.proofs.laws.Places.{Against, less, equal, more, against}
 use Rattle.tables.specs.declared.layout.Counts.{Counts}
-use Rattle.tables.specs.Layout.{pointWidth, recordWidth, rowWidth, recordCells, recordAt, noFloat}
+use Rattle.tables.specs.Layout.{pointWidth, recordWidth, rowWidth, recordCells, pointAt, recordAt, rowAt, noFloat, noPoint, noRecord, noRow}
 use Rattle.tables.specs.Mesh.{Lent, Mesh, Unused, upTo, flat, padded, meshOf, laid}
 use Rattle.tables.proofs.laws.Width.{has}
 use Rattle.tables.proofs.laws.Parts.{cut}
@@ -99,6 +99,25 @@ module _ {A B : Type 0} {w : ℕ} {cells : A → List B} {from : List B → ℕ 
         flat-apart (upTo (at (padded n z (flat cells xs))) (length xs)) xs (length-up-to (at (padded n z (flat cells xs))) (length xs))
         (flat-up-to (padded n z (flat cells xs)) (length xs) (rw length-padded h)
         ∙ take-at (flat cells xs) (replicate (n - length (flat cells xs)) z) (w * length xs) (length-flat cells w (t .length-cells) xs))
+
+-- ---- what a mesh has at a number is what its table has there
+
+module _ (t : Lent) (c : Counts) (k : ℕ) where
+  pub mesh-row : k < c .rows → getD (meshOf t c .rows) k noRow ≡ rowAt (t .rows) k
+  unfolding meshOf
+  mesh-row h = up-to-at (rowAt (t .rows)) (c .rows) k noRow h
+
+  pub mesh-record : k < c .vertices → getD (meshOf t c .records) k noRecord ≡ recordAt (t .records) k
+  unfolding meshOf
+  mesh-record h = up-to-at (recordAt (t .records)) (c .vertices) k noRecord h
+
+  pub mesh-point : k < c .vertices → getD (meshOf t c .points) k noPoint ≡ pointAt (t .points) k
+  unfolding meshOf
+  mesh-point h = up-to-at (pointAt (t .points)) (c .vertices) k noPoint h
+
+pub mesh-points : (t : Lent) (c : Counts) → length (meshOf t c .points) ≡ c .vertices
+unfolding meshOf
+mesh-points t c = length-up-to (pointAt (t .points)) (c .vertices)
 
 -- ---- the three tables together
 
