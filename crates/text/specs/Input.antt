@@ -8,7 +8,7 @@ use lib.Ieee.{Float}
 use Rattle.fields.specs.declared.line.Line.{Line}
 use Rattle.fields.specs.declared.line.Line.the-variants as line
 use Rattle.fields.specs.Field.{parts}
-use Rattle.fields.specs.Line.{lineOf}
+use Rattle.fields.specs.Line.{lineOf, reported}
 
 -- what the V, T and M lines give: three floats a vertex, four numbers an element, a row a mark
 pub record Input : Type 0 where
@@ -43,7 +43,7 @@ takes i (line.Element a b c d) =
     (fault 12)
 takes i (line.Mark r) =
     cond (over 1 (length (i .marks)) 256) (fault 13) (taken (input (i .coordinates) (i .elements) (i .marks ++ (r ∷ []))))
-takes i (line.Refused p) = fault 12
+takes i (line.Refused p) = fault (reported (line.Refused p) .number)
 
 pub data Reading : Type 0 where
   all : Input → Reading
@@ -52,7 +52,7 @@ pub data Reading : Type 0 where
 -- from line k on; what follows the last line feed is a line that is not well formed, unless it is nothing
 unfoldable pub readFrom : Input → ℕ → List (List ℕ) → Reading
 readFrom i k [] = all i
-readFrom i k (p ∷ []) = cond (eqb (length p) 0) (all i) (refused 12 k)
+readFrom i k (p ∷ []) = cond (eqb (length p) 0) (all i) (refused (reported (line.Refused k) .number) (reported (line.Refused k) .place))
 readFrom i k (p ∷ q ∷ ps) = elim (takes i (lineOf p k)) [ taken j ↦ readFrom j (suc k) (q ∷ ps) | fault n ↦ refused n k ]
 
 -- each line is ended by a line feed
