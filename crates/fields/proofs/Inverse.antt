@@ -360,7 +360,7 @@ free-snoc : {s : ℕ} {l : List ℕ} → Free s l → (y : ℕ) → (y ≡ s →
 free-snoc bare y f = more f bare
 free-snoc (more g r) y f = more g (free-snoc r y f)
 
-free-spelled : (b s k n : ℕ) → Free 9 (spelled b s k n)
+pub free-spelled : (b s k n : ℕ) → Free 9 (spelled b s k n)
 free-spelled b s zero n = rw (spell-none b s n) bare
 free-spelled b s (suc k) n = go (free-spelled b s k (n / b)) (ltb n s) refl
   where

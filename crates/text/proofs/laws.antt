@@ -5,3 +5,4 @@ pub mod Printing
 pub mod Mesh
 pub mod Answer
 pub mod Written
+pub mod Never

@@ -30,12 +30,12 @@ module _ (i : Input) (k : ℕ) (p : List ℕ) where
   unfolding readFrom
   read-end h = rw (readFrom, ne-eqb (length p) 0 h)
 
-  read-taken : (ps : List (List ℕ)) → 0 < length ps → (j : Input) → takes i (lineOf p k) ≡ taken j → readFrom i k (p ∷ ps) ≡ readFrom j (suc k) ps
+  pub read-taken : (ps : List (List ℕ)) → 0 < length ps → (j : Input) → takes i (lineOf p k) ≡ taken j → readFrom i k (p ∷ ps) ≡ readFrom j (suc k) ps
   unfolding readFrom
   read-taken [] h j e = absurd (omega (arith, h))
   read-taken (q ∷ ps) h j e = rw (readFrom, e)
 
-  read-fault : (ps : List (List ℕ)) → 0 < length ps → (n : ℕ) → takes i (lineOf p k) ≡ fault n → readFrom i k (p ∷ ps) ≡ refused n k
+  pub read-fault : (ps : List (List ℕ)) → 0 < length ps → (n : ℕ) → takes i (lineOf p k) ≡ fault n → readFrom i k (p ∷ ps) ≡ refused n k
   unfolding readFrom
   read-fault [] h n e = absurd (omega (arith, h))
   read-fault (q ∷ ps) h n e = rw (readFrom, e)
