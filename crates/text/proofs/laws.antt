@@ -6,3 +6,4 @@ pub mod Mesh
 pub mod Answer
 pub mod Written
 pub mod Never
+pub mod Roots

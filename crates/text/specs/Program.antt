@@ -4,20 +4,23 @@ use mathlib.Core.Bool.{cond}
 use mathlib.Core.List.{List, _++_, map}
 use Prim.Native.Nat.{ℕ, _/_, _≤_}
 use lib.Dec.{eqb}
-use lib.ListN.{length}
+use lib.ListN.{length, getD}
 use lib.Seq.{sets}
 use Rattle.tables.specs.declared.layout.Counts.{Counts}
+use Rattle.tables.specs.Layout.{rowAt}
 use Rattle.tables.specs.Mesh.{Lent, meshOf, laid}
 use Rattle.tables.specs.Report.{Report, refusal}
+use Rattle.forest.specs.Shallow as forest
 use Rattle.opening.specs.declared.answer.Opened.{Opened}
 use Rattle.opening.specs.declared.answer.Opened.the-variants as opened
 use Rattle.opening.specs.Opening as opening
+use Rattle.sound.specs.Forest.{elementOf}
 use Rattle.closure.specs.declared.answer.Refined.{Refined}
 use Rattle.closure.specs.declared.answer.Refined.the-variants as refined
 use Rattle.closure.specs.Refine as closure
 use Rattle.leaves.specs.Listing.{levelIn, listing}
 use Rattle.text.specs.Input.{Input, Reading, all, refused, readAll}
-use Rattle.text.specs.Output.{cLine, pLines, lLines}
+use Rattle.text.specs.Output.{cLine, lLine, pLines, lLines, texts}
 
 -- C, number, vertices, rows, splits; if refused C, number, place, 0, 0
 unfoldable pub headline : Report → List ℕ
@@ -26,6 +29,14 @@ headline r = cond (eqb (r .number) 0) (cLine 0 (r .vertices) (r .rows) (r .split
 -- L lines of all leaves, in the order of the listing
 unfoldable pub leafLines : Lent → Counts → List ℕ
 leafLines t c = let W = meshOf t c .rows in lLines (t .rows) (listing W) (map (levelIn W) (listing W)) (length (listing W))
+
+-- the L line of row k with the root of its element, in the forest of the first `roots` rows
+abbrev pub rootedLine : Lent → Counts → ℕ → ℕ → List ℕ
+rootedLine t c roots k = lLine k (forest.rootOf (elementOf (meshOf t c) roots k)) (levelIn (meshOf t c .rows) k) (rowAt (t .rows) k)
+
+-- the same of all leaves: the law on the printed roots speaks of it, and nothing is promised with it
+unfoldable pub rootedLines : Lent → Counts → ℕ → List ℕ
+rootedLines t c roots = let L = listing (meshOf t c .rows) in texts (λ j. rootedLine t c roots (getD L j 0)) (length L)
 
 -- what is printed of refining a mesh of the given number of initial vertices: where it refused, the C line alone
 unfoldable pub refinedText : ℕ → Refined → Lent → List ℕ

@@ -72,7 +72,7 @@ leaves-few {w = w} {c} h = omega (arith, sound-listable (h .sound) .size, count-
 
 -- ---- the L lines
 
-texts-same : (f g : ℕ → List ℕ) (n : ℕ) → ((j : ℕ) → j < n → f j ≡ g j) → texts f n ≡ texts g n
+pub texts-same : (f g : ℕ → List ℕ) (n : ℕ) → ((j : ℕ) → j < n → f j ≡ g j) → texts f n ≡ texts g n
 unfolding texts
 texts-same f g zero s = refl
 texts-same f g (suc n) s = rw (texts, s n (omega arith), texts-same f g n (λ j h. s j (omega arith)))

@@ -184,7 +184,7 @@ opens-number i {n} {p} = go (judged (i .coordinates) (i .elements) 1536 1024 614
     go (verdict.Refused m q) f e = let s : m ≡ n = cc in comes-is s (comes-low (judged-low (i .coordinates) (i .elements) 1536 1024 6144 .low m q f))
     go verdict.Passed f e = let z : _≡_ {A = ℕ} 0 1 = cc in absurd (omega arith)
 
-opens-unsplit : (i : Input) {c : Counts} → opens i ≡ opened.Done c → Unsplit (openedTables i) c (c .rows)
+pub opens-unsplit : (i : Input) {c : Counts} → opens i ≡ opened.Done c → Unsplit (openedTables i) c (c .rows)
 unfolding opens openedTables
 opens-unsplit i {c} = go (judged (i .coordinates) (i .elements) 1536 1024 6144) refl
   where
@@ -193,6 +193,16 @@ opens-unsplit i {c} = go (judged (i .coordinates) (i .elements) 1536 1024 6144) 
     go verdict.Passed f e =
         let s : record { vertices = length (i .coordinates) / 3; rows = length (i .elements) / 4 } ≡ c = cc in
         subst (λ (d : Counts). Unsplit (openedTables i) d (d .rows)) s (laid-unsplit (i .coordinates) (i .elements) 1536 1024 6144 f)
+
+pub opens-rows : (i : Input) {c : Counts} → opens i ≡ opened.Done c → c .rows ≡ length (i .elements) / 4
+unfolding opens
+opens-rows i {c} = go (judged (i .coordinates) (i .elements) 1536 1024 6144)
+  where
+    go : (v : Verdict) → answer v (length (i .coordinates) / 3) (length (i .elements) / 4) ≡ opened.Done c → c .rows ≡ length (i .elements) / 4
+    go (verdict.Refused m q) e = let z : _≡_ {A = ℕ} 0 1 = cc in absurd (omega arith)
+    go verdict.Passed e =
+        let s : record { vertices = length (i .coordinates) / 3; rows = length (i .elements) / 4 } ≡ c = cc in
+        sym (ap (λ (d : Counts). d .rows) s)
 
 -- ---- refining opened tables: 0, 10 and 2
 

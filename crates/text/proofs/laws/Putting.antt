@@ -158,12 +158,12 @@ pub record Climbing (w : List ℕ) (k i at : ℕ) : Type 0 where
   pub within : i ≤ 60
   pub same : rootOf w k ≡ rootFrom w (60 - i) at
 
-root-here : (w : List ℕ) (f k : ℕ) → rowAt w k .parent ≡ k → rootFrom w f k ≡ k
+pub root-here : (w : List ℕ) (f k : ℕ) → rowAt w k .parent ≡ k → rootFrom w f k ≡ k
 unfolding rootFrom
 root-here w zero k e = refl
 root-here w (suc f) k e = rw (rootFrom, eq-eqb (rowAt w k .parent) k e)
 
-root-over : (w : List ℕ) (f k : ℕ) → (rowAt w k .parent ≡ k → ⊥) → rootFrom w (suc f) k ≡ rootFrom w f (rowAt w k .parent)
+pub root-over : (w : List ℕ) (f k : ℕ) → (rowAt w k .parent ≡ k → ⊥) → rootFrom w (suc f) k ≡ rootFrom w f (rowAt w k .parent)
 unfolding rootFrom
 root-over w f k e = rw (rootFrom, ne-eqb (rowAt w k .parent) k e)
 
