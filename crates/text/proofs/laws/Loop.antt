@@ -10,6 +10,7 @@ use lib.ListN.{length, take, drop, length-drop}
 use lib.Seq.{drop-drop, drop-length}
 use lib.Ieee.{Float}
 use Rattle.fields.specs.declared.line.Line.{Line}
+use Rattle.fields.specs.declared.line.Line.the-variants as line
 use Rattle.text.specs.declared.input.Used.{Used}
 use Rattle.text.specs.declared.input.Step.{Step}
 use Rattle.text.specs.declared.input.Step.the-variants as step
@@ -18,9 +19,10 @@ use Rattle.text.specs.declared.input.Turn.the-variants as turn
 use Rattle.text.specs.declared.input.Read.{Read}
 use Rattle.text.specs.declared.input.Read.the-variants as read
 use Rattle.fields.specs.Field.{parts, before, stopOf}
-use Rattle.fields.specs.Line.{lineOf}
+use Rattle.fields.specs.Line.{lineOf, reported}
 use Rattle.text.specs.Input.{Input, Taken, taken, fault, takes, Reading, all, refused, readFrom, readAll}
 use Rattle.text.specs.Reading.{inputOf, Fits, Sized, Takes, Ready, Turns, Reads}
+use Rattle.fields.proofs.laws.Reports.{line-reported}
 use Rattle.fields.proofs.laws.Fields.{Inside, parts-some, parts-more, parts-last, parts-none, part, part-order, part-fits}
 
 -- ---- the definition, line by line
@@ -39,6 +41,17 @@ module _ (i : Input) (k : ℕ) (p : List ℕ) where
   unfolding readFrom
   read-fault [] h n e = absurd (omega (arith, h))
   read-fault (q ∷ ps) h n e = rw (readFrom, e)
+
+malformed-fault : (i : Input) (v : Line) → (reported v .number ≡ 0 → ⊥) → takes i v ≡ fault (reported v .number)
+unfolding takes
+malformed-fault i (line.Vertex x y z) n = absurd (n refl)
+malformed-fault i (line.Element a b c d) n = absurd (n refl)
+malformed-fault i (line.Mark r) n = absurd (n refl)
+malformed-fault i (line.Refused p) n = refl
+
+-- a line that is not well formed ends the reading, by the number and the place that it reports
+pub read-malformed : (i : Input) (k : ℕ) (p q : List ℕ) (ps : List (List ℕ)) → (reported (lineOf p k) .number ≡ 0 → ⊥) → readFrom i k (p ∷ q ∷ ps) ≡ refused (reported (lineOf p k) .number) (reported (lineOf p k) .place)
+read-malformed i k p q ps n = read-fault i k p (q ∷ ps) (omega arith) (reported (lineOf p k) .number) (malformed-fault i (lineOf p k) n) ∙ ap (refused (reported (lineOf p k) .number)) (sym (line-reported p k n .1))
 
 read-none : (i : Input) (k : ℕ) → readFrom i k ([] ∷ []) ≡ all i
 unfolding readFrom
