@@ -19,7 +19,7 @@ floats r = r .floats
 abbrev numbers : ReadLine → List ℕ
 numbers r = r .numbers
 
--- two lines with the same report are equal: its number and values tell the case (01, Bounds)
+-- two lines with the same report are equal: its number and values tell the case (01, "Which shape goes where")
 pub report-tells : (l m : Line) → reported l ≡ reported m → l ≡ m
 report-tells (Vertex x y z) (Vertex p q r) e = let f : x ∷ y ∷ z ∷ [] ≡ p ∷ q ∷ r ∷ [] = ap floats e in cc
 report-tells (Vertex x y z) (Element a b c d) e = absurd (omega (arith, ap letter e))
