@@ -1,6 +1,6 @@
 -- The root on an L line is the root of the leaf's element: a row's depth is how many steps to parents lead there, and no depth is above 60.
 use mathlib.Core.Path.{_≡_, refl, ap, _∙_}
-use mathlib.Core.List.{List, [], _∷_, map}
+use mathlib.Core.List.{List, [], _∷_, _++_, map}
 use mathlib.Core.Logic.{inl, inr}
 use Prim.Native.Nat.{ℕ, zero, suc, _/_, _≤_, _<_}
 use native.Mathlib.Omega.{arith}
@@ -10,6 +10,7 @@ use Rattle.split.proofs.laws.Places.{le-or-lt}
 use Rattle.tables.specs.declared.layout.Counts.{Counts}
 use Rattle.tables.specs.Layout.{rowAt}
 use Rattle.tables.specs.Mesh.{Lent, meshOf}
+use Rattle.tables.specs.Report.{done}
 use Rattle.opening.specs.declared.answer.Opened.the-variants as opened
 use Rattle.forest.specs.Element.{Element, depth}
 use Rattle.forest.specs.Shallow as forest
@@ -25,9 +26,9 @@ use Rattle.closure.proofs.laws.Kept.{mesh-row}
 use Rattle.closure.proofs.laws.Taken.{sound-rows}
 use Rattle.leaves.specs.Listing.{levelIn, listing}
 use Rattle.leaves.proofs.laws.Sound.{sound-listing}
-use Rattle.text.specs.Output.{leafLine, lLines, rootFrom, rootOf}
+use Rattle.text.specs.Output.{leafLine, pLines, lLines, rootFrom, rootOf}
 use Rattle.text.specs.Input.{Input}
-use Rattle.text.specs.Program.{leafLines, rootedLine, rootedLines, opens, openedTables}
+use Rattle.text.specs.Program.{headline, leafLines, rootedLine, rootedLines, refinedText, Refining, opens, openedTables}
 use Rattle.text.proofs.laws.Mesh.{texts-same}
 use Rattle.text.proofs.laws.Never.{opens-unsplit, opens-rows}
 use Rattle.text.proofs.laws.Putting.{root-here, root-over}
@@ -108,3 +109,9 @@ printed-rooted i {c} {d} {n} {t'} o x =
     let w = accepted-sound (u .sound) x in
     let roots : w .sound .roots ≡ length (i .elements) / 4 = w .roots ∙ u .roots-are ∙ opens-rows i o in
     rw (← roots) (leaves-rooted (w .sound))
+
+-- the same of the whole text that the program writes
+pub refining-rooted : (i : Input) {c d : Counts} {n : ℕ} {text : List ℕ} → opens i ≡ opened.Done c → (x : Refining (openedTables i) c (i .marks) text) → x .answer ≡ refined.Done d n
+    → text ≡ headline (done d n) ++ pLines (x .after .points) (x .after .records) (c .vertices) (d .vertices) ++ rootedLines (x .after) d (length (i .elements) / 4)
+unfolding refinedText
+refining-rooted i o x e = x .prints ∙ rw (e, ← printed-rooted i o (rw e at (x .refines)))
