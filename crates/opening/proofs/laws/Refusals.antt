@@ -74,16 +74,16 @@ unfolding tested
 passed-tested [] end = refl
 passed-tested (c ∷ cs) (next s r) = rw (tested, none-first (c .present) (c .places) s) (passed-tested cs r)
 
--- every cause has a number from 1 on
-number-from-one : (F : List Float) (E : List ℕ) (points records rows n p : ℕ) → RefusedBy (causes F E points records rows) n p → 1 ≤ n
-number-from-one F E a b c n p (here s) = omega arith
-number-from-one F E a b c n p (later _ (here s)) = omega arith
-number-from-one F E a b c n p (later _ (later _ (here s))) = omega arith
-number-from-one F E a b c n p (later _ (later _ (later _ (here s)))) = omega arith
-number-from-one F E a b c n p (later _ (later _ (later _ (later _ (here s))))) = omega arith
-number-from-one F E a b c n p (later _ (later _ (later _ (later _ (later _ (here s)))))) = omega arith
-number-from-one F E a b c n p (later _ (later _ (later _ (later _ (later _ (later _ (here s))))))) = omega arith
-number-from-one F E a b c n p (later _ (later _ (later _ (later _ (later _ (later _ (later _ (here s)))))))) = omega arith
+-- the causes are numbered 1 to 8
+cause-number : (F : List Float) (E : List ℕ) (points records rows n p : ℕ) → RefusedBy (causes F E points records rows) n p → (1 ≤ n) × (n ≤ 8)
+cause-number F E a b c n p (here s) = (omega arith, omega arith)
+cause-number F E a b c n p (later _ (here s)) = (omega arith, omega arith)
+cause-number F E a b c n p (later _ (later _ (here s))) = (omega arith, omega arith)
+cause-number F E a b c n p (later _ (later _ (later _ (here s)))) = (omega arith, omega arith)
+cause-number F E a b c n p (later _ (later _ (later _ (later _ (here s))))) = (omega arith, omega arith)
+cause-number F E a b c n p (later _ (later _ (later _ (later _ (later _ (here s)))))) = (omega arith, omega arith)
+cause-number F E a b c n p (later _ (later _ (later _ (later _ (later _ (later _ (here s))))))) = (omega arith, omega arith)
+cause-number F E a b c n p (later _ (later _ (later _ (later _ (later _ (later _ (later _ (here s)))))))) = (omega arith, omega arith)
 
 -- ---- the verdict
 
@@ -92,6 +92,9 @@ module _ (F : List Float) (E : List ℕ) (points records rows : ℕ) where
   pub judged-refused : (n p : ℕ) → judged F E points records rows ≡ verdict.Refused n p ↔ RefusedBy (causes F E points records rows) n p
   judged-refused n p =
       let e = judged-tested F E points records rows in (λ x. tested-refused (causes F E points records rows) n p (sym e ∙ x), λ r. e ∙ refused-tested (causes F E points records rows) n p r)
+
+  pub judged-number : (n p : ℕ) → judged F E points records rows ≡ verdict.Refused n p → (1 ≤ n) × (n ≤ 8)
+  judged-number n p e = cause-number F E points records rows n p (judged-refused n p .0 e)
 
   -- passed exactly if no cause is present
   pub judged-passed : judged F E points records rows ≡ verdict.Passed ↔ RefusedByNone (causes F E points records rows)
@@ -129,4 +132,4 @@ module _ {F : List Float} {E : List ℕ} {t : Lent} {r : Opened} {t' : Lent} (o 
 
   -- the tests are numbered from 1
   pub opens-number : {n p : ℕ} → r ≡ Refused n p → 1 ≤ n
-  opens-number {n} {p} e = number-from-one F E _ _ _ n p (opens-refuses n p .0 e)
+  opens-number {n} {p} e = cause-number F E _ _ _ n p (opens-refuses n p .0 e) .0

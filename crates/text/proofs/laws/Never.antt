@@ -1,27 +1,23 @@
 -- The program never answers 9 or 11: it refines opened tables, which are sound, and all of whose rows have depth 0.
 use mathlib.Core.Path.{_≡_, refl, sym, ap, subst, _∙_}
-use mathlib.Core.Bool.{Bool, true, false, cond, _||_}
+use mathlib.Core.Bool.{Bool, true, false, cond}
 use mathlib.Core.List.{List, [], _∷_, _++_, append-assoc, List·Memᴰ, List·Memᴰ·head, List·Memᴰ·tail}
 use Prim.Native.Nat.{ℕ, suc, _+_, _/_, _≤_, _<_}
 use native.Mathlib.Omega.{arith}
 use borrow.Author.Tests.{eqb-true}
 use lib.Dec.{eqb}
-use lib.Ieee.{Float}
 use lib.ListN.{length, getD}
 use Rattle.tables.specs.declared.layout.Counts.{Counts}
 use Rattle.tables.specs.Mesh.{Lent, meshOf}
 use Rattle.tables.specs.Report.{Report, refusal, done}
-use Rattle.intake.specs.declared.answer.Found.{Found}
-use Rattle.intake.specs.declared.answer.Found.the-variants.{At, Nowhere}
+use Rattle.intake.specs.declared.answer.Found.the-variants.{Nowhere}
 use Rattle.intake.specs.declared.answer.Verdict.{Verdict}
 use Rattle.intake.specs.declared.answer.Verdict.the-variants as verdict
 use Rattle.intake.specs.Search.{first}
-use Rattle.intake.specs.Causes.{wrongInput, wrongLent, noRoom, unusable, missing, double, same, third}
-use Rattle.intake.specs.Verdict.{when, at, plain, fitting}
 use Rattle.opening.specs.declared.answer.Opened.{Opened}
 use Rattle.opening.specs.declared.answer.Opened.the-variants as opened
-use Rattle.opening.specs.Colours.{garish}
-use Rattle.opening.specs.Opening.{late, judged, answer}
+use Rattle.opening.specs.Opening.{judged, answer}
+use Rattle.opening.proofs.laws.Refusals.{judged-number}
 use Rattle.sound.specs.Sound.{Sound}
 use Rattle.sound.proofs.laws.Afresh.{root-depth}
 use Rattle.run.specs.Demand.{Deep}
@@ -32,11 +28,10 @@ use Rattle.closure.specs.declared.answer.Refined.{Refined}
 use Rattle.closure.specs.declared.answer.Refined.the-variants as refined
 use Rattle.closure.specs.Refine as closure
 use Rattle.closure.specs.Refine.{absent, Refines, OnMarks}
-use Rattle.closure.specs.History.{Unsplit}
 use Rattle.closure.proofs.laws.Judged.{mark-there}
 use Rattle.closure.proofs.laws.Taken.{sound-mesh, sound-ready, sound-rows}
 use Rattle.closure.proofs.laws.Promise.{judged-by}
-use Rattle.closure.proofs.laws.Opened.{laid-unsplit}
+use Rattle.closure.proofs.laws.Opened.{Unsplit, laid-unsplit}
 use Rattle.fields.specs.declared.line.Line.{Line}
 use Rattle.fields.specs.declared.line.Line.the-variants as line
 use Rattle.fields.specs.Digits.{numberOf, decimal}
@@ -146,53 +141,23 @@ read-number (l ∷ q ∷ ps) i k {n} {p} e = go (λ j f. read-number (q ∷ ps) 
 
 -- ---- opening: 1 to 8
 
-record Low (v : Verdict) : Type 0 where
-  low : (n p : ℕ) → v ≡ verdict.Refused n p → n ≤ 8
-
-verdict-is : {m n p q : ℕ} → verdict.Refused m p ≡ verdict.Refused n q → m ≡ n
-verdict-is e = cc
-
-passed-low : Low verdict.Passed
-passed-low = record { low = λ n p e. let z : _≡_ {A = ℕ} 0 1 = cc in absurd (omega arith) }
-
-when-low : (b : Bool) (n : ℕ) {next : Verdict} → n ≤ 8 → Low next → Low (when b n next)
-when-low true n h x = record { low = λ m p e. omega (arith, h, verdict-is e) }
-when-low false n h x = x
-
-at-low : (f : Found) (n : ℕ) {next : Verdict} → n ≤ 8 → Low next → Low (at f n next)
-at-low (At k) n h x = record { low = λ m p e. omega (arith, h, verdict-is e) }
-at-low Nowhere n h x = x
-
-judged-low : (F : List Float) (E : List ℕ) (p r w : ℕ) → Low (judged F E p r w)
-unfolding judged fitting plain late
-judged-low F E p r w =
-    let elements = length E / 4 in
-    when-low (wrongInput (length F) (length E) || wrongLent p r w) 1 (omega arith)
-    (when-low (noRoom (length F / 3) elements p r w) 2 (omega arith)
-    (at-low (first (unusable F) (length F / 3)) 3 (omega arith)
-    (at-low (first (missing (length F / 3) E) elements) 4 (omega arith)
-    (at-low (first (double E) elements) 5 (omega arith)
-    (at-low (first (same E) elements) 6 (omega arith)
-    (at-low (first (third E) elements) 7 (omega arith)
-    (at-low (first (garish E) (length F / 3)) 8 (omega arith) passed-low)))))))
-
 opens-number : (i : Input) {n p : ℕ} → opens i ≡ opened.Refused n p → Comes n
 unfolding opens
 opens-number i {n} {p} = go (judged (i .coordinates) (i .elements) 1536 1024 6144) refl
   where
     go : (v : Verdict) → judged (i .coordinates) (i .elements) 1536 1024 6144 ≡ v → answer v (length (i .coordinates) / 3) (length (i .elements) / 4) ≡ opened.Refused n p → Comes n
-    go (verdict.Refused m q) f e = let s : m ≡ n = cc in comes-is s (comes-low (judged-low (i .coordinates) (i .elements) 1536 1024 6144 .low m q f))
+    go (verdict.Refused m q) f e = let s : m ≡ n = cc in comes-is s (comes-low (judged-number (i .coordinates) (i .elements) 1536 1024 6144 m q f .1))
     go verdict.Passed f e = let z : _≡_ {A = ℕ} 0 1 = cc in absurd (omega arith)
 
-pub opens-unsplit : (i : Input) {c : Counts} → opens i ≡ opened.Done c → Unsplit (openedTables i) c (c .rows)
+pub opens-unsplit : (i : Input) {c : Counts} → opens i ≡ opened.Done c → Unsplit (openedTables i) c
 unfolding opens openedTables
 opens-unsplit i {c} = go (judged (i .coordinates) (i .elements) 1536 1024 6144) refl
   where
-    go : (v : Verdict) → judged (i .coordinates) (i .elements) 1536 1024 6144 ≡ v → answer v (length (i .coordinates) / 3) (length (i .elements) / 4) ≡ opened.Done c → Unsplit (openedTables i) c (c .rows)
+    go : (v : Verdict) → judged (i .coordinates) (i .elements) 1536 1024 6144 ≡ v → answer v (length (i .coordinates) / 3) (length (i .elements) / 4) ≡ opened.Done c → Unsplit (openedTables i) c
     go (verdict.Refused m q) f e = let z : _≡_ {A = ℕ} 0 1 = cc in absurd (omega arith)
     go verdict.Passed f e =
         let s : record { vertices = length (i .coordinates) / 3; rows = length (i .elements) / 4 } ≡ c = cc in
-        subst (λ (d : Counts). Unsplit (openedTables i) d (d .rows)) s (laid-unsplit (i .coordinates) (i .elements) 1536 1024 6144 f)
+        subst (λ (d : Counts). Unsplit (openedTables i) d) s (laid-unsplit (i .coordinates) (i .elements) 1536 1024 6144 f)
 
 pub opens-rows : (i : Input) {c : Counts} → opens i ≡ opened.Done c → c .rows ≡ length (i .elements) / 4
 unfolding opens
@@ -210,7 +175,7 @@ below-all : (n : ℕ) (l : List ℕ) → ((j : ℕ) → j < length l → getD l 
 below-all n (x ∷ l) f q (List·Memᴰ·head e) = rw e (f 0 (omega arith))
 below-all n (x ∷ l) f q (List·Memᴰ·tail k) = below-all n l (λ j h. f (suc j) (omega arith)) q k
 
-module _ {t : Lent} {c : Counts} (u : Unsplit t c (c .rows)) (marks : List ℕ) where
+module _ {t : Lent} {c : Counts} (u : Unsplit t c) (marks : List ℕ) where
   abbrev s : Sound t c
   s = u .sound
 
@@ -250,7 +215,7 @@ record Answered (text : List ℕ) : Type 0 where
 headline-answered : (r : Report) {text : List ℕ} → text ≡ headline r → Comes (r .number) → Answered text
 headline-answered r e c = record { number = r .number; begins = rw e (headline-begins r); comes = c }
 
-refining-answered : {t : Lent} {c : Counts} {marks text : List ℕ} → Unsplit t c (c .rows) → Refining t c marks text → Answered text
+refining-answered : {t : Lent} {c : Counts} {marks text : List ℕ} → Unsplit t c → Refining t c marks text → Answered text
 unfolding refinedText
 refining-answered {t} {c} {marks} {text} u x = go (x .answer) (unsplit-number u marks (x .refines)) (x .prints)
   where

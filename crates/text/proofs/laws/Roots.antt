@@ -11,6 +11,7 @@ use Rattle.tables.specs.declared.layout.Counts.{Counts}
 use Rattle.tables.specs.Layout.{rowAt}
 use Rattle.tables.specs.Mesh.{Lent, meshOf}
 use Rattle.tables.specs.Report.{done}
+use Rattle.tables.proofs.laws.View.{mesh-row}
 use Rattle.opening.specs.declared.answer.Opened.the-variants as opened
 use Rattle.forest.specs.Element.{Element, depth}
 use Rattle.forest.specs.Shallow as forest
@@ -22,7 +23,6 @@ use Rattle.closure.specs.declared.answer.Refined.the-variants as refined
 use Rattle.closure.specs.Refine.{Refines}
 use Rattle.closure.proofs.laws.Accepted.{accepted-sound}
 use Rattle.closure.proofs.laws.Cutting.{member-at}
-use Rattle.closure.proofs.laws.Kept.{mesh-row}
 use Rattle.closure.proofs.laws.Taken.{sound-rows}
 use Rattle.leaves.specs.Listing.{levelIn, listing}
 use Rattle.leaves.proofs.laws.Sound.{sound-listing}
