@@ -1,7 +1,7 @@
 -- The previous-occurrence index over a sequence of keys: `key i` is the key at place i.
 use mathlib.Core.Path.{_≡_}
 use mathlib.Core.Bool.{Bool, _&&_, cond}
-use mathlib.Core.List.{List, [], _∷_}
+use mathlib.Core.List.{List}
 use Prim.Native.Nat.{ℕ, zero, suc, _+_, _≤_, _<_}
 use lib.Dec.{eqb, ltb}
 use lib.ListN.{length, getD, set}
@@ -10,11 +10,6 @@ use lib.ListN.{length, getD, set}
 unfoldable pub latest : (ℕ → ℕ) → ℕ → ℕ → ℕ
 latest key v zero = 0
 latest key v (suc i) = cond (eqb (key i) v) (suc i) (latest key v i)
-
--- the places below n that have the key v, in falling order
-unfoldable pub places : (ℕ → ℕ) → ℕ → ℕ → List ℕ
-places key v zero = []
-places key v (suc i) = cond (eqb (key i) v) (i ∷ places key v i) (places key v i)
 
 -- a table that indexes the first n places: heads below `base`, links from there on
 pub record Indexed (key : ℕ → ℕ) (n base : ℕ) (index : List ℕ) : Type 0 where

@@ -1,4 +1,4 @@
--- Sound tables (01, "Sound tables"), clause by clause in the document's order and words. It does not say how tables came about: children and midpoints may be numbered as no call would number them.
+-- Sound tables (01, "Sound tables"), clause by clause in the document's words: clauses 2 to 7 on the mesh, then 1 and 8 on the tables. It does not say how tables came about: children and midpoints may be numbered as no call would number them.
 use mathlib.Core.Path.{_≡_}
 use mathlib.Core.List.{List, [], _∷_, map}
 use Prim.Native.Nat.{ℕ, _+_, _*_, _%_, _≤_, _<_}
@@ -78,7 +78,7 @@ abbrev pub place : Side → ℕ → ℕ
 place left c = c
 place right c = c + 1
 
--- row r is one child of exactly one earlier row, by the split table, depth and parent included, with no depth above 60
+-- row r is one child of the earlier row that it names as its parent, by the split table, depth and parent included, with no depth above 60; that it is no other row's follows (`one-parent`)
 pub record Child (m : Mesh) (i r : ℕ) : Type 0 where
   pub older : rowOf m r .parent < r
   pub split : rowOf m (rowOf m r .parent) .child ≡ 0 → ⊥

@@ -1,4 +1,4 @@
--- What the parts of the check decide beside the shape: clauses 3, 6 and 7. Nothing here is promised to callers.
+-- What the parts of the check decide beside the shape: clauses 3, 6 and 7. Callers are promised nothing of it but `Cleared`, of the memory that `check_in` is lent.
 use mathlib.Core.Path.{_≡_}
 use mathlib.Core.Bool.{Bool, true}
 use mathlib.Core.List.{List, []}
@@ -99,7 +99,7 @@ pub record Cleared (n : ℕ) (scratch : List ℕ) : Type 0 where
   pub size : length scratch ≡ n
   pub zero : (v : ℕ) → getD scratch v 0 ≡ 0
 
--- clause 6
+-- of clause 6: the parents of each midpoint are smaller than it and in order, and its coordinates follow the rule
 abbrev pub AllRuled : List Float → List ℕ → Counts → ℕ → Type 0
 AllRuled p r c i = (v : ℕ) → i ≤ v → v < c .vertices → Ruled p r v
 

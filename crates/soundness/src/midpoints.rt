@@ -1,4 +1,4 @@
-// Clause 6: midpoints follow the rule, and each pair of parents is the edge of a split row.
+// Of clause 6: the parents of a midpoint are smaller than it and in order, and its coordinates follow the rule.
 use chain::wide;
 use split::point::Point;
 ghost use mathlib.Core.Path.{_≡_};
