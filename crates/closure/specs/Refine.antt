@@ -7,7 +7,7 @@ use lib.Dec.{leb}
 use lib.ListN.{length, getD}
 use Rattle.tables.specs.declared.layout.Counts.{Counts}
 use Rattle.tables.specs.Layout.{roomOf}
-use Rattle.tables.specs.Mesh.{Lent, Mesh, meshOf, laid}
+use Rattle.tables.specs.Mesh.{Lent, meshOf, laid}
 use Rattle.tables.specs.Report.{Report, refusal, done}
 use Rattle.intake.specs.declared.answer.Found.the-variants.{At, Nowhere}
 use Rattle.intake.specs.Search.{first}

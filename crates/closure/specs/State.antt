@@ -1,7 +1,7 @@
 -- The tables while closure works on them, and what its parts do to them. Nothing here is promised to callers.
 use mathlib.Core.Path.{_≡_}
 use mathlib.Core.Bool.{cond}
-use mathlib.Core.List.{List, [], _∷_}
+use mathlib.Core.List.{List}
 use Prim.Native.Nat.{ℕ, _+_, _-_, _*_, _/_, _%_, _≤_, _<_}
 use lib.Dec.{ltb}
 use lib.ListN.{length, getD, set}
@@ -10,7 +10,7 @@ use Rattle.split.specs.declared.row.Ends.{Ends}
 use Rattle.chain.specs.Chain.{Indexed, pushed}
 use Rattle.tables.specs.declared.layout.Counts.{Counts}
 use Rattle.tables.specs.declared.record.Record.{Record}
-use Rattle.tables.specs.Layout.{rowWidth, recordWidth, noRecord, noRow, recordAt, rowAt}
+use Rattle.tables.specs.Layout.{rowWidth, noRow, recordAt, rowAt}
 use Rattle.tables.specs.Mesh.{upTo}
 use Rattle.run.specs.Skeleton.{Skeleton}
 use Rattle.split.specs.Split.{at, Distinct}

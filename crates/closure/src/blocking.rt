@@ -4,7 +4,6 @@ use chain::wide;
 use intake::answer::Found;
 use split::row::Ends;
 ghost use mathlib.Core.Path.{_≡_};
-ghost use mathlib.Core.Bool.{not};
 ghost use Rattle.split.specs.Row.{edgeOf};
 ghost use Rattle.tables.specs.Layout.{rowAt};
 ghost use Rattle.run.specs.Run.{sameEnds, otherIn};

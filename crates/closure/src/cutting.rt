@@ -5,8 +5,6 @@ use split::row::Ends;
 use tables::layout::Counts;
 use tables::record::Record;
 ghost use mathlib.Core.Path.{_≡_};
-ghost use mathlib.Core.Bool.{_&&_};
-ghost use lib.Dec.{ltb, leb};
 ghost use Prim.Native.Nat.{_+_, _*_, _≤_};
 ghost use Rattle.split.specs.Row.{edgeOf};
 ghost use Rattle.tables.specs.Layout.{rowAt, putRecord};

@@ -4,7 +4,6 @@ use crate::step::Step;
 use chain::wide;
 use tables::layout::Counts;
 ghost use Prim.Native.Nat.{_<_};
-ghost use lib.ListN.{length, getD};
 ghost use Rattle.closure.specs.Marking.{Due, Marks, Passes, AllDue};
 
 // Refines row q where it is a leaf; a row already split is passed over.

@@ -2,7 +2,7 @@
 
 ghost use mathlib.Core.Path.{_≡_};
 ghost use Prim.Native.Nat.{_+_};
-ghost use lib.ListN.{length, getD};
+ghost use lib.ListN.{length};
 ghost use Rattle.fields.specs.Field.{parts, stopOf, nextOf, startOf, fieldOf, tickOf, letterOf, shapedAs};
 
 pub const TAB: u8 = 9;

@@ -6,7 +6,6 @@ use crate::digits::number;
 use crate::field::field;
 use crate::field::shaped;
 ghost use mathlib.Core.Path.{_≡_};
-ghost use Prim.Native.Nat.{_<_};
 ghost use Rattle.fields.specs.Line.{vertexOf, elementOf, markOf, lineOf, Small};
 ghost use Rattle.fields.specs.Digits.{numberOf, hexOf};
 ghost use Rattle.fields.specs.Field.{fieldOf};

@@ -5,7 +5,7 @@ use Prim.Native.Nat.{ℕ, suc, _+_, _*_, _≤_, _<_}
 use native.Mathlib.Nat.{mul-suc, lt-of-mul-lt-mul-left}
 use native.Mathlib.Decide.{ℕ-discrete}
 use native.Mathlib.Omega.{arith}
-use Rattle.split.specs.Split.{Tag, one, two, three, number, at, Holds, Distinct}
+use Rattle.split.specs.Split.{number, at, Holds, Distinct}
 use Rattle.split.proofs.laws.Places.{Against, less, equal, more, against}
 use Rattle.split.proofs.laws.Children.{far-at}
 use Rattle.split.proofs.laws.Tags.{tag-range}

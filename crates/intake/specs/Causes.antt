@@ -1,7 +1,7 @@
 -- The causes of numbers 1 to 7 (01, "What comes back"), each a test on the input: coordinates F, elements E.
-use mathlib.Core.Bool.{Bool, true, false, not, _&&_, _||_}
+use mathlib.Core.Bool.{Bool, false, not, _&&_, _||_}
 use mathlib.Core.List.{List}
-use Prim.Native.Nat.{ℕ, _+_, _*_, _/_, _%_, _^_}
+use Prim.Native.Nat.{ℕ, _+_, _*_, _%_, _^_}
 use lib.Dec.{eqb, ltb, leb}
 use lib.ListN.{getD}
 use lib.Ieee.{Float, nan, inf, fin, up, down}

@@ -2,8 +2,7 @@
 use crate::answer::Found;
 ghost use mathlib.Core.Path.{_≡_};
 ghost use Prim.Native.Nat.{_*_, _/_, _<_, _+_};
-ghost use lib.ListN.{length, getD};
-ghost use mathlib.Core.Bool.{not};
+ghost use lib.ListN.{length};
 ghost use Rattle.intake.specs.Causes.{usable, unusable};
 ghost use Rattle.intake.specs.Search.{first};
 

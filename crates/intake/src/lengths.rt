@@ -1,5 +1,4 @@
 // Numbers 1 and 2: lengths and room.
-use tables::layout::Counts;
 use tables::layout::POINT;
 use tables::layout::RECORD;
 use tables::layout::ROW;

@@ -2,7 +2,6 @@
 use chain::put;
 use chain::wide;
 ghost use mathlib.Core.Path.{_≡_};
-ghost use lib.ListN.{set};
 ghost use Rattle.leaves.specs.Listing.{levelOf};
 ghost use Rattle.leaves.specs.Walk.{below, Low, Walkable, Stores, StoresOne};
 

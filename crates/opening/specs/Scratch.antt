@@ -18,7 +18,7 @@ use Rattle.intake.specs.Verdict.{at}
 use Rattle.opening.specs.Opening.{late, judged}
 use Rattle.intake.specs.Search.{first, count}
 use Rattle.intake.specs.Causes.{vertex, has, before, same, third}
-use Rattle.opening.specs.Colours.{taken, colours, colourOf, garish}
+use Rattle.opening.specs.Colours.{taken, colours, garish}
 
 abbrev pub linksAt : ℕ
 linksAt = 20000

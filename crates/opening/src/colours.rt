@@ -4,10 +4,9 @@ use crate::index::LINKS;
 use chain::wide;
 use intake::answer::Found;
 ghost use mathlib.Core.Path.{_≡_};
-ghost use Prim.Native.Nat.{ℕ, _*_, _/_, _<_, _≤_, _+_, min};
-ghost use lib.ListN.{length, getD};
+ghost use Prim.Native.Nat.{_*_, _/_, _<_, _≤_, _+_, min};
+ghost use lib.ListN.{length};
 ghost use Rattle.opening.specs.Colours.{colourOf, largest, colours};
-ghost use Rattle.intake.specs.Search.{first};
 ghost use Rattle.opening.specs.Scratch.{paintLength, Plain, Ready, Clear, Painted, Flags, Marks, marked, markedAll, unmarked, Coloured};
 
 // The table of colours, one for each vertex.

@@ -9,10 +9,8 @@ use intake::judge_numbers;
 use intake::verdict_at;
 ghost use mathlib.Core.Path.{_≡_};
 ghost use Prim.Native.Nat.{_/_};
-ghost use lib.ListN.{length};
 ghost use Rattle.intake.specs.declared.answer.Verdict.the-variants.{Passed};
 ghost use Rattle.intake.specs.Search.{orAt};
-ghost use Rattle.intake.specs.Verdict.{at, fitting, plain};
 ghost use Rattle.opening.specs.Scratch.{Plain, Filled, Clear, Sifted, Judged, Settled};
 
 // What was found, or else place k where the test holds there.

@@ -1,8 +1,8 @@
 // The order of a root's vertices: sorted by colour, the last in front exactly if its colour is N (Definition 2).
 use split::row::Row;
 ghost use mathlib.Core.Path.{_≡_};
-ghost use Prim.Native.Nat.{ℕ, _*_, _<_, _+_};
-ghost use lib.ListN.{length, getD};
+ghost use Prim.Native.Nat.{_*_, _<_, _+_};
+ghost use lib.ListN.{length};
 ghost use Rattle.split.specs.Split.{three};
 ghost use Rattle.forest.specs.Start.{arranged};
 ghost use Rattle.opening.specs.Order.{sorted, rootOf};

@@ -4,7 +4,7 @@ use tables::layout::INITIAL;
 use tables::record::Record;
 ghost use mathlib.Core.Path.{_≡_};
 ghost use Prim.Native.Nat.{ℕ, _*_, _/_, _≤_, _<_};
-ghost use lib.ListN.{length, getD, replicate};
+ghost use lib.ListN.{length, replicate};
 ghost use Rattle.tables.specs.Layout.{noFloat, pointAt, pointCells, recordCells, rowCells};
 ghost use Rattle.tables.specs.Mesh.{padded, flat, upTo};
 ghost use Rattle.opening.specs.Opening.{initial};

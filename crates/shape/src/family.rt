@@ -7,7 +7,7 @@ use split::row::Row;
 use tables::layout::Counts;
 ghost use mathlib.Core.Path.{_≡_};
 ghost use mathlib.Core.List.{[]};
-ghost use Prim.Native.Nat.{ℕ, _≤_, _<_};
+ghost use Prim.Native.Nat.{ℕ, _<_};
 ghost use lib.ListN.{getD};
 ghost use Rattle.split.specs.Split.{far};
 ghost use Rattle.split.specs.Row.{readTag, cornersOf};

@@ -2,7 +2,7 @@
 use mathlib.Core.Path.{_≡_}
 use mathlib.Core.Bool.{Bool, true}
 use mathlib.Core.List.{List, []}
-use Prim.Native.Nat.{ℕ, _+_, _-_, _*_, _/_, _%_, _≤_, _<_}
+use Prim.Native.Nat.{ℕ, _+_, _-_, _*_, _%_, _≤_, _<_}
 use lib.ListN.{length, getD}
 use lib.Ieee.{Float}
 use Rattle.split.specs.Split.{Holds}
@@ -14,7 +14,7 @@ use Rattle.tables.specs.Mesh.{meshOf, Unused}
 use Rattle.tables.specs.Layout.{pointAt, recordAt, rowAt}
 use Rattle.sound.specs.Sound.{Afresh, Fitting}
 use Rattle.sound.specs.Check.{Decides, lent, bare}
-use Rattle.shape.specs.Shape.{Children, Parents, middleAt, AllUsed}
+use Rattle.shape.specs.Shape.{Children, Parents, middleAt}
 
 -- the parents of v are smaller than it and in order, and its coordinates follow the rule
 pub record Ruled (p : List Float) (r : List ℕ) (v : ℕ) : Type 0 where

@@ -3,10 +3,8 @@ use chain::wide;
 use split::point::Point;
 ghost use mathlib.Core.Path.{_≡_};
 ghost use Prim.Native.Nat.{ℕ, _≤_, _<_};
-ghost use lib.ListN.{length, getD};
 ghost use Rattle.sound.specs.Check.{Decides};
 ghost use Rattle.soundness.specs.Check.{Ruled};
-ghost use Rattle.shape.specs.Shape.{middleAt, Marked};
 
 // Equal in every bit; the language has one NaN.
 fn same_float(x: f64, y: f64) -> bool

@@ -3,7 +3,7 @@ use chain::put;
 use tables::layout::Counts;
 ghost use mathlib.Core.Path.{_≡_};
 ghost use Prim.Native.Nat.{_*_, _≤_};
-ghost use lib.ListN.{length, take, set};
+ghost use lib.ListN.{length, take};
 ghost use Rattle.tables.specs.Layout.{rowAt};
 ghost use Rattle.tables.specs.Mesh.{meshOf, flat, upTo};
 ghost use Rattle.sound.specs.Sound.{Afresh, vertexCells, Fitting};

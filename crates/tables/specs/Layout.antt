@@ -1,5 +1,5 @@
 -- The three lent tables (01, "The tables"): how wide each is, what stands at a number, and the room that they give.
-use mathlib.Core.Bool.{Bool, _&&_, cond}
+use mathlib.Core.Bool.{_&&_, cond}
 use mathlib.Core.List.{List, [], _∷_}
 use Prim.Native.Nat.{ℕ, _+_, _*_, _/_, min}
 use lib.Dec.{ltb, leb}

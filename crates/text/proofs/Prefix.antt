@@ -10,7 +10,6 @@ use lib.Ieee.{binary64, ofBits}
 use lib.ListN.{length, take, length-append}
 use lib.Seq.{take-append-le, take-append-add, length-take-le}
 use Rattle.fields.specs.declared.line.Line.{Line}
-use Rattle.fields.specs.declared.line.Line.the-variants as line
 use Rattle.fields.specs.Digits.{decimal, sixteen}
 use Rattle.fields.specs.Field.{parts, tabbed}
 use Rattle.text.specs.Program.{Program}

@@ -1,6 +1,6 @@
 -- What the parts of the reader do with the lists that they fill. Nothing here is promised to callers.
 use mathlib.Core.Path.{_≡_}
-use mathlib.Core.List.{List, [], _∷_}
+use mathlib.Core.List.{List}
 use Prim.Native.Nat.{ℕ, suc, _≤_, _<_}
 use lib.ListN.{length, take, drop}
 use lib.Ieee.{Float}
@@ -14,7 +14,7 @@ use Rattle.text.specs.declared.input.Turn.the-variants as turn
 use Rattle.text.specs.declared.input.Read.{Read}
 use Rattle.text.specs.declared.input.Read.the-variants as read
 use Rattle.fields.specs.Field.{parts}
-use Rattle.text.specs.Input.{Input, input, Taken, taken, fault, takes, Reading, all, refused, readFrom, readAll}
+use Rattle.text.specs.Input.{Input, input, Taken, taken, fault, takes, all, refused, readFrom, readAll}
 
 -- what the filled parts of the lists hold
 abbrev pub inputOf : List Float → List ℕ → List ℕ → Used → Input

@@ -6,16 +6,16 @@ use Prim.Native.Nat.{ℕ, zero, suc, _+_, _-_, _*_, _/_, _%_, _≤_, _<_}
 use native.Mathlib.Nat.{mul-le-mul-left}
 use native.Mathlib.Omega.{arith}
 use lib.Ieee.{Float}
-use lib.ListN.{length, getD, take, drop, replicate, length-replicate}
+use lib.ListN.{length, getD, take, drop, replicate}
 use lib.Seq.{drop-drop}
 use Rattle.split.proofs.laws.Places.{le-or-lt}
 use Rattle.tables.specs.Layout.{rowWidth, recordWidth, pointWidth, rowCells, recordCells, pointCells, rowAt, recordAt, pointAt, noRow, noRecord, noPoint, noFloat}
 use Rattle.tables.specs.Mesh.{upTo, flat, padded}
-use Rattle.tables.proofs.laws.Width.{whole, has, before}
+use Rattle.tables.proofs.laws.Width.{whole}
 use Rattle.tables.proofs.laws.Parts.{drop-replicate}
 use Rattle.tables.proofs.laws.Table.{Table, at-past, cells-at, cells-apart}
 use Rattle.tables.proofs.laws.Rows.{rows, records, points}
-use Rattle.tables.proofs.laws.View.{length-up-to, up-to-at, length-flat, length-padded, drop-padded, up-to-padded}
+use Rattle.tables.proofs.laws.View.{length-up-to, up-to-at, length-padded, drop-padded, up-to-padded}
 use Rattle.closure.proofs.laws.Tables.{table-same}
 
 take-replicate : {B : Type 0} (n j : ℕ) (z : B) → n ≤ j → take n (replicate j z) ≡ replicate n z

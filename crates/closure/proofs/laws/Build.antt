@@ -2,11 +2,8 @@
 use mathlib.Core.Path.{_≡_, refl, ap, _∙_}
 use mathlib.Core.List.{List}
 use Prim.Native.Nat.{ℕ, _+_, _*_, _≤_, _<_}
-use native.Mathlib.Decide.{ℕ-discrete}
 use native.Mathlib.Omega.{arith}
-use lib.ListN.{length, getD, set, length-set}
-use lib.Seq.{getD-set-same, getD-set-other}
-use Rattle.split.specs.declared.row.Row.{Row}
+use lib.ListN.{length}
 use Rattle.split.specs.Split.{at}
 use Rattle.split.specs.Row.{cornersOf}
 use Rattle.chain.specs.Chain.{Indexed, pushed}

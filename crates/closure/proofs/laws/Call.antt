@@ -3,35 +3,31 @@ use mathlib.Core.Path.{_≡_, refl, sym, ap, subst, _∙_}
 use mathlib.Core.Bool.{Bool, true, false, not, _&&_, cond}
 use mathlib.Core.List.{List}
 use mathlib.Core.Logic.{_⊎_, inl, inr}
-use Prim.Native.Nat.{ℕ, _+_, _-_, _/_, _≤_, _<_}
+use Prim.Native.Nat.{ℕ, _-_, _/_, _≤_, _<_}
 use native.Mathlib.Omega.{arith}
 use lib.Dec.{leb, ltb}
 use lib.ListN.{length, getD, drop}
 use lib.Ieee.{Float}
 use borrow.Author.Tests.{le-leb, lt-leb, lt-ltb, le-ltb, not-true, not-false}
-use Rattle.split.specs.declared.row.Row.{Row}
 use Rattle.split.proofs.laws.Places.{le-or-lt}
 use Rattle.tables.specs.declared.layout.Counts.{Counts}
-use Rattle.tables.specs.declared.record.Record.{Record}
-use Rattle.tables.specs.Layout.{rowWidth, recordWidth, pointWidth, noRow, noRecord, noFloat, pointCells, recordCells, rowCells, pointAt, recordAt, rowAt, roomOf}
-use Rattle.tables.specs.Mesh.{Lent, Mesh, meshOf, laid, upTo, flat, padded}
+use Rattle.tables.specs.Layout.{recordWidth, noRow, noRecord, noFloat, pointCells, recordCells, rowCells, pointAt, recordAt, rowAt, roomOf}
+use Rattle.tables.specs.Mesh.{Lent, meshOf, laid, upTo, flat, padded}
 use Rattle.tables.proofs.laws.View.{length-up-to, up-to-at}
-use Rattle.intake.specs.declared.answer.Found.the-variants.{At, Nowhere}
+use Rattle.intake.specs.declared.answer.Found.the-variants.{Nowhere}
 use Rattle.intake.specs.declared.answer.Verdict.{Verdict}
 use Rattle.intake.specs.declared.answer.Verdict.the-variants as verdict
 use Rattle.intake.specs.Search.{first}
 use Rattle.sound.specs.Sound.{Sound}
 use Rattle.sound.specs.Check.{Decides, lent}
 use Rattle.soundness.specs.Check.{Cleared}
-use Rattle.run.specs.Skeleton.{Skeleton, meshed, extended}
-use Rattle.run.specs.Ready.{Reach}
+use Rattle.run.specs.Skeleton.{meshed, extended}
 use Rattle.run.specs.Run.{Within}
 use Rattle.run.proofs.laws.Grows.{Grows}
 use Rattle.run.proofs.laws.Reach.{reach-ready, reach-grows}
 use Rattle.run.proofs.laws.Room.{enough-room}
 use Rattle.run.proofs.laws.Refused.{no-room}
 use Rattle.frame.specs.Marks.{onMarks}
-use Rattle.frame.specs.Points.{filled}
 use Rattle.frame.specs.Undo.{restored, emptiedRecords, undone}
 use Rattle.frame.proofs.laws.Marks.{told, Told, deeps}
 use Rattle.frame.proofs.laws.Marks as judged
@@ -41,15 +37,13 @@ use Rattle.closure.specs.declared.step.Step.{Step}
 use Rattle.closure.specs.declared.step.Step.the-variants as step
 use Rattle.closure.specs.State.{rowsOf, recordsOf, seen, scratchLength, State}
 use Rattle.closure.specs.Build.{Indexable}
-use Rattle.closure.specs.Refining.{Tables}
 use Rattle.closure.specs.Marking.{AllDue, Ended, Failed, Marks}
-use Rattle.closure.specs.Refine.{absent, roomIn, reported, Accepts, OnRoom, outgrown, fits, OnDepth, deep, shallow, OnMarks, missing, present, Refines, unsound, sound}
+use Rattle.closure.specs.Refine.{absent, reported, Accepts, outgrown, fits, deep, shallow, missing, present, Refines, unsound, sound}
 use Rattle.closure.specs.Call.{Finishes, Closable, Closes, Callable, Calls}
 use Rattle.closure.proofs.laws.Tables.{rows-same, records-same}
 use Rattle.closure.proofs.laws.Blank.{rows-blank, records-blank, points-blank, rows-padded, records-padded, points-padded}
 use Rattle.closure.proofs.laws.Restored.{restored-row}
-use Rattle.closure.proofs.laws.Entry.{Roomy, roomy, entry-mesh, entry-ready, entry-index, entry-tables, entry-steady}
-use Rattle.closure.proofs.laws.Marking.{within-room}
+use Rattle.closure.proofs.laws.Entry.{Roomy, roomy, entry-mesh, entry-ready, entry-index, entry-steady}
 use Rattle.closure.proofs.laws.Judged.{refused-never, mark-fine, marks-markable, marks-shallow, marks-deep}
 use Rattle.closure.proofs.laws.Undo.{Emptied, Undoable, Undone, undone-right, records-emptied}
 use Rattle.closure.proofs.laws.Points.{Fillable, Filled, filled-right}

@@ -1,7 +1,7 @@
 -- Refining a leaf and clearing its patch, each by the other.
-use mathlib.Core.Path.{_≡_, refl, sym, ap, subst, _∙_}
+use mathlib.Core.Path.{_≡_, refl, sym, subst, _∙_}
 use mathlib.Core.List.{List}
-use Prim.Native.Nat.{ℕ, _+_, _-_, _*_, _≤_, _<_}
+use Prim.Native.Nat.{ℕ, _+_, _-_, _*_, _<_}
 use native.Mathlib.Omega.{arith}
 use lib.ListN.{length}
 use Rattle.split.specs.Split.{Distinct}
@@ -11,10 +11,9 @@ use Rattle.tables.specs.Layout.{noRow, recordAt, rowAt}
 use Rattle.tables.proofs.laws.View.{length-up-to, up-to-at}
 use Rattle.intake.specs.declared.answer.Found.the-variants.{At, Nowhere}
 use Rattle.sound.proofs.laws.Placed.{row-distinct}
-use Rattle.run.specs.Skeleton.{Skeleton}
-use Rattle.run.specs.Ready.{Ready, Open, Reach, rankIn}
+use Rattle.run.specs.Ready.{rankIn}
 use Rattle.run.specs.Ready as ready
-use Rattle.run.specs.Run.{blocking, Run, blocked, Within, Stuck, below, after}
+use Rattle.run.specs.Run.{blocking, blocked, below, after}
 use Rattle.run.proofs.laws.Runs.{run-records, block-open}
 use Rattle.run.proofs.laws.Reach.{reach-ready, reach-on, block-less, rank-stays, waits}
 use Rattle.closure.specs.declared.step.Look.{Look}
@@ -23,8 +22,8 @@ use Rattle.closure.specs.declared.step.Patch.the-variants as patch
 use Rattle.closure.specs.declared.step.Step.{Step}
 use Rattle.closure.specs.declared.step.Step.the-variants.{Done, Full}
 use Rattle.closure.specs.State.{rowsOf, seen, State}
-use Rattle.closure.specs.Refining.{Tables, Sure, Ran, Jammed, Refines, Cuttable, Lookable, Looks, Towards, Clearing, Cleared, Clears}
-use Rattle.closure.proofs.laws.Cutting.{refines-done, refines-full}
+use Rattle.closure.specs.Refining.{Tables, Sure, Jammed, Refines, Cuttable, Lookable, Looks, Clearing, Cleared, Clears}
+use Rattle.closure.proofs.laws.Cutting.{refines-full}
 
 -- ---- the answers
 

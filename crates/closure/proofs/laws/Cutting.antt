@@ -1,34 +1,32 @@
 -- The split of a patch that no leaf blocks, on the tables.
 use mathlib.Core.Path.{_≡_, refl, sym, ap, subst, _∙_}
-use mathlib.Core.Bool.{Bool, true, false, not, _&&_}
+use mathlib.Core.Bool.{Bool, true, false, not}
 use mathlib.Core.List.{List, [], _∷_, _++_, List·Memᴰ, List·Memᴰ·head, List·Memᴰ·tail}
-use mathlib.Core.Logic.{_⊎_, inl, inr}
+use mathlib.Core.Logic.{inl, inr}
 use Prim.Native.Nat.{ℕ, zero, suc, _+_, _-_, _*_, _/_, _≤_, _<_}
 use native.Mathlib.Omega.{arith}
-use lib.Dec.{ltb, leb}
+use lib.Dec.{leb}
 use lib.ListN.{length, getD, length-append}
-use borrow.Author.Tests.{lt-ltb, le-ltb, le-leb, lt-leb, leb-true, leb-false, ltb-true, ltb-false, not-true, not-false}
+use borrow.Author.Tests.{lt-ltb, le-ltb, leb-true, leb-false, ltb-true, not-true, not-false}
 use Rattle.split.specs.declared.row.Row.{Row}
 use Rattle.split.specs.declared.row.Ends.{Ends}
 use Rattle.split.specs.Row.{edgeOf}
 use Rattle.split.proofs.laws.Places.{le-or-lt}
 use Rattle.tables.specs.declared.layout.Counts.{Counts}
-use Rattle.tables.specs.Layout.{rowWidth, recordWidth, noRow, noRecord, recordAt, rowAt, putRecord}
+use Rattle.tables.specs.Layout.{recordWidth, noRow, recordAt, rowAt, putRecord}
 use Rattle.tables.proofs.laws.Rows.{length-put-record}
 use Rattle.tables.proofs.laws.View.{length-up-to, up-to-at}
-use Rattle.intake.specs.declared.answer.Found.the-variants.{Nowhere}
 use Rattle.run.specs.Skeleton.{Skeleton, rowIn}
 use Rattle.run.specs.Ready.{Open}
-use Rattle.run.specs.Run.{holders, blocking, cutAll, cut, recordFor, splitPatch, Run, clear, Over, Stuck, full}
+use Rattle.run.specs.Run.{holders, cutAll, cut, recordFor, splitPatch, Run, clear, Over, full}
 use Rattle.run.specs.Run as run
 use Rattle.run.proofs.laws.Listed.{cut-length}
 use Rattle.run.proofs.laws.Holders.{holders-only}
 use Rattle.run.specs.Ready as ready
 use Rattle.run.proofs.laws.Reach.{reach-run}
-use Rattle.closure.specs.declared.step.Step.{Step}
 use Rattle.closure.specs.declared.step.Step.the-variants.{Done, Full}
 use Rattle.closure.specs.State.{rowsOf, recordsOf, seen, scratchLength, patchIn, State, Patchable, Parted}
-use Rattle.closure.specs.Refining.{Tables, Sure, Ran, Jammed, Refines, fitsIn, Patched, Cuttable}
+use Rattle.closure.specs.Refining.{Tables, Ran, Jammed, Refines, fitsIn, Patched, Cuttable}
 use Rattle.sound.proofs.laws.Searches.{and-both}
 use Rattle.closure.proofs.laws.Answers.{done-counts, full-counts, done-full}
 use Rattle.closure.proofs.laws.Rows.{record-other, records-next}

@@ -1,13 +1,11 @@
 -- A call's entry: sound tables are a state in which closure can work.
-use mathlib.Core.Path.{_≡_, refl, sym, ap, subst, _∙_}
-use mathlib.Core.Bool.{Bool, true, false}
+use mathlib.Core.Path.{_≡_, sym, subst, _∙_}
 use mathlib.Core.List.{List}
-use Prim.Native.Nat.{ℕ, _+_, _*_, _/_, _%_, _≤_, _<_, min}
+use Prim.Native.Nat.{ℕ, _*_, _/_, _%_, _≤_, _<_}
 use native.Mathlib.Omega.{arith}
-use lib.ListN.{length, getD}
+use lib.ListN.{length}
 use lib.Ieee.{Float}
 use Rattle.split.specs.declared.row.Row.{Row}
-use Rattle.split.specs.declared.point.Point.{Point}
 use Rattle.split.specs.Split.{at}
 use Rattle.split.specs.Row.{cornersOf}
 use Rattle.tables.specs.declared.layout.Counts.{Counts}
@@ -15,10 +13,10 @@ use Rattle.tables.specs.Layout.{rowWidth, recordWidth, pointWidth, noRow, point
 use Rattle.tables.specs.Mesh.{Mesh, meshOf}
 use Rattle.tables.proofs.laws.View.{length-up-to, up-to-at}
 use Rattle.sound.specs.Sound.{Sound}
-use Rattle.closure.specs.State.{corner, rowsOf, recordsOf, seen, linksAt, scratchLength, State}
+use Rattle.closure.specs.State.{corner, rowsOf, recordsOf, seen, linksAt, State}
 use Rattle.sound.specs.Check.{lent}
 use Rattle.sound.proofs.laws.Placed.{placed}
-use Rattle.run.specs.Skeleton.{Skeleton, meshed}
+use Rattle.run.specs.Skeleton.{meshed}
 use Rattle.run.specs.Ready.{Ready}
 use Rattle.run.proofs.laws.Points.{points-own}
 use Rattle.closure.specs.Build.{Headless, Indexable}

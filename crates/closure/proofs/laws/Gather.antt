@@ -1,19 +1,16 @@
 -- The walk along the corners of one end: the rows behind it that are in the patch are listed.
 use mathlib.Core.Path.{_≡_, refl, sym, ap, _∙_}
 use mathlib.Core.Bool.{Bool, true, false, cond}
-use mathlib.Core.List.{List, [], _∷_}
-use mathlib.Core.Logic.{_⊎_, inl, inr}
+use mathlib.Core.List.{List, _∷_}
 use Prim.Native.Nat.{ℕ, zero, suc, _+_, _-_, _*_, _/_, _%_, _≤_, _<_}
-use native.Mathlib.Decide.{ℕ-discrete}
 use native.Mathlib.Omega.{arith}
 use native.Mathlib.Numerals.{add-one}
 use lib.ListN.{length, getD, set, length-set}
 use lib.Seq.{ext-getD, getD-set-same, getD-set-other}
 use Rattle.split.specs.declared.row.Row.{Row}
 use Rattle.split.specs.declared.row.Ends.{Ends}
-use Rattle.split.specs.Split.{at, Holds, Distinct}
+use Rattle.split.specs.Split.{at, Holds}
 use Rattle.split.specs.Row.{cornersOf}
-use Rattle.split.proofs.laws.Places.{le-or-lt}
 use Rattle.chain.specs.Chain.{latest, Indexed}
 use Rattle.chain.proofs.laws.Index.{next-link}
 use Rattle.chain.proofs.laws.Walk.{latest-between, latest-below, latest-miss, latest-some}
@@ -21,10 +18,10 @@ use Rattle.tables.specs.Layout.{noRow, rowAt}
 use Rattle.tables.specs.Mesh.{upTo}
 use Rattle.tables.proofs.laws.View.{length-up-to, up-to-at}
 use Rattle.opening.proofs.laws.Indexing.{indexed-kept}
-use Rattle.closure.specs.State.{corner, rowsOf, linksAt, patchAt, scratchLength, patchIn, State, EndOf, small, large, Gatherable, Gathers}
+use Rattle.closure.specs.State.{corner, rowsOf, linksAt, scratchLength, patchIn, EndOf, small, large, Gatherable, Gathers}
 use Rattle.run.specs.Skeleton.{rowIn}
-use Rattle.run.specs.Run.{has, holding, holdersFrom, holders}
-use Rattle.run.proofs.laws.Holders.{has-holds, holds-has, Holding, holding-is, is-holding, from-hit, from-miss}
+use Rattle.run.specs.Run.{holding, holdersFrom}
+use Rattle.run.proofs.laws.Holders.{Holding, holding-is, from-hit, from-miss}
 use Rattle.closure.proofs.laws.Index.{corner-row}
 
 -- ---- the list in the scratch table

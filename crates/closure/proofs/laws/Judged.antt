@@ -1,10 +1,10 @@
 -- Marks that have passed their tests, and those that have not.
-use mathlib.Core.Path.{_≡_, refl, sym, ap, subst, _∙_}
+use mathlib.Core.Path.{_≡_, refl, sym, subst, _∙_}
 use mathlib.Core.Bool.{Bool, true, false, _&&_}
-use mathlib.Core.List.{List, [], _∷_, List·Memᴰ, List·Memᴰ·head, List·Memᴰ·tail}
-use Prim.Native.Nat.{ℕ, zero, suc, _≤_, _<_}
+use mathlib.Core.List.{List, _∷_, List·Memᴰ, List·Memᴰ·head, List·Memᴰ·tail}
+use Prim.Native.Nat.{ℕ, suc, _≤_, _<_}
 use native.Mathlib.Omega.{arith}
-use lib.Dec.{eqb, leb}
+use lib.Dec.{eqb}
 use lib.ListN.{length, getD}
 use lib.Ieee.{Float}
 use borrow.Author.Tests.{eq-eqb, eqb-true, leb-false}
@@ -13,20 +13,17 @@ use Rattle.tables.specs.declared.layout.Counts.{Counts}
 use Rattle.tables.specs.Layout.{noRow, rowAt}
 use Rattle.tables.specs.Mesh.{meshOf}
 use Rattle.tables.proofs.laws.View.{length-up-to, up-to-at}
-use Rattle.intake.specs.declared.answer.Found.{Found}
-use Rattle.intake.specs.declared.answer.Found.the-variants.{At, Nowhere}
-use Rattle.intake.specs.declared.answer.Verdict.{Verdict}
+use Rattle.intake.specs.declared.answer.Found.the-variants.{Nowhere}
 use Rattle.intake.specs.declared.answer.Verdict.the-variants.{Passed, Refused}
 use Rattle.intake.specs.Search.{first, any}
-use Rattle.intake.specs.Verdict.{at, when}
+use Rattle.intake.specs.Verdict.{at}
 use Rattle.intake.proofs.laws.Search.{first-none, any-has, any-some}
 use Rattle.sound.specs.Sound.{Sound}
 use Rattle.sound.proofs.laws.Searches.{and-both}
 use Rattle.sound.specs.Check.{lent}
 use Rattle.sound.proofs.laws.Placed.{placed}
 use Rattle.run.specs.Demand.{Deep}
-use Rattle.run.specs.Skeleton.{meshed}
-use Rattle.run.proofs.laws.Marks.{Markable, AllMarkable}
+use Rattle.run.proofs.laws.Marks.{AllMarkable}
 use Rattle.run.proofs.laws.Demanded.{marked-deep, not-deep}
 use Rattle.closure.specs.State.{rowsOf, seen}
 use Rattle.frame.specs.Marks.{deepAt}

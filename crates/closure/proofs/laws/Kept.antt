@@ -7,10 +7,10 @@ use lib.ListN.{length, getD, drop, length-append, List·getD-append}
 use Rattle.split.specs.declared.point.Point.{Point}
 use Rattle.tables.specs.declared.layout.Counts.{Counts}
 use Rattle.tables.specs.declared.record.Record.{Record}
-use Rattle.tables.specs.Layout.{noPoint, noRecord, noRow, pointAt, recordAt, rowAt}
+use Rattle.tables.specs.Layout.{noPoint, pointAt, recordAt, rowAt}
 use Rattle.tables.specs.Mesh.{Lent, Mesh, meshOf}
 use Rattle.tables.proofs.laws.View.{mesh-row, mesh-record, mesh-point, mesh-points}
-use Rattle.sound.specs.Sound.{pointOf, recordOf, rowOf, childless, Sound}
+use Rattle.sound.specs.Sound.{pointOf, childless, Sound}
 use Rattle.run.specs.Skeleton.{extended}
 use Rattle.run.proofs.laws.Points.{halfway}
 use Rattle.closure.specs.declared.answer.Refined.the-variants.{Done}

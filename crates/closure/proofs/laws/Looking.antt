@@ -1,22 +1,18 @@
 -- Looking at a patch: it is listed, and the first leaf that blocks is found.
-use mathlib.Core.Path.{_≡_, refl, sym, ap, _∙_}
+use mathlib.Core.Path.{_≡_, _∙_}
 use mathlib.Core.List.{List}
-use Prim.Native.Nat.{ℕ, _≤_, _<_}
+use Prim.Native.Nat.{ℕ, _<_}
 use native.Mathlib.Omega.{arith}
 use Rattle.split.specs.declared.row.Row.{Row}
 use Rattle.split.specs.declared.row.Ends.{Ends}
-use Rattle.split.specs.Split.{number, far, at}
-use Rattle.split.specs.Row.{cornersOf, tagOf, ends, edgeOf}
-use Rattle.split.proofs.laws.Places.{le-or-lt}
-use Rattle.split.proofs.laws.Ends.{ends-rising, ends-falling}
-use Rattle.split.proofs.laws.Tags.{tag-range}
-use Rattle.split.proofs.laws.Children.{far-at}
+use Rattle.split.specs.Split.{at}
+use Rattle.split.specs.Row.{edgeOf}
 use Rattle.tables.specs.Layout.{noRow, rowAt}
 use Rattle.tables.proofs.laws.View.{up-to-at}
 use Rattle.intake.specs.declared.answer.Found.{Found}
-use Rattle.run.specs.Run.{holders, otherIn, blocking}
+use Rattle.run.specs.Run.{otherIn}
 use Rattle.run.proofs.laws.Edge.{own-both}
-use Rattle.closure.specs.State.{rowsOf, linksAt, patchIn, State, EndOf, small, large, Gatherable, Gathers, Listed}
+use Rattle.closure.specs.State.{rowsOf, linksAt, patchIn, EndOf, small, large, Gatherable, Gathers, Listed}
 use Rattle.closure.specs.Refining.{Patched, Lookable, Looks}
 use Rattle.closure.proofs.laws.Index.{Under, state-under}
 use Rattle.closure.proofs.laws.Cutting.{patched-listed}

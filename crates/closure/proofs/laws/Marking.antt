@@ -1,7 +1,7 @@
 -- The marks of a call, one after the other.
 use mathlib.Core.Path.{_≡_, refl, sym, ap, subst, _∙_}
 use mathlib.Core.List.{List, [], _∷_}
-use Prim.Native.Nat.{ℕ, zero, suc, _+_, _≤_, _<_}
+use Prim.Native.Nat.{ℕ, _+_, _≤_, _<_}
 use native.Mathlib.Omega.{arith}
 use native.Mathlib.Numerals.{add-one}
 use lib.ListN.{length, getD, drop}
@@ -10,8 +10,8 @@ use Rattle.split.specs.declared.row.Row.{Row}
 use Rattle.tables.specs.declared.layout.Counts.{Counts}
 use Rattle.tables.specs.Layout.{noRow, recordAt, rowAt}
 use Rattle.tables.proofs.laws.View.{length-up-to, up-to-at}
-use Rattle.run.specs.Skeleton.{Skeleton, rowIn}
-use Rattle.run.specs.Ready.{Ready, Open, Reach}
+use Rattle.run.specs.Skeleton.{rowIn}
+use Rattle.run.specs.Ready.{Reach}
 use Rattle.run.specs.Ready as ready
 use Rattle.run.specs.Run.{RunAll, StuckAll, Within}
 use Rattle.run.specs.Run as run
@@ -20,9 +20,9 @@ use Rattle.run.proofs.laws.Reach.{reach-ready, reach-grows, reach-on}
 use Rattle.closure.specs.declared.step.Step.{Step}
 use Rattle.closure.specs.declared.step.Step.the-variants.{Done, Full}
 use Rattle.closure.specs.State.{rowsOf, seen}
-use Rattle.closure.specs.Refining.{Tables, Sure, Ran, Jammed, Refines}
+use Rattle.closure.specs.Refining.{Tables, Sure, Refines}
 use Rattle.closure.proofs.laws.Answers.{done-counts, full-counts, done-full}
-use Rattle.closure.specs.Marking.{Steady, Fine, Due, AllDue, Passed, Halted, Passes, Ended, Failed, Marks, Marking}
+use Rattle.closure.specs.Marking.{Steady, Fine, Due, AllDue, Passed, Passes, Ended, Failed, Marks, Marking}
 
 -- ---- one mark
 

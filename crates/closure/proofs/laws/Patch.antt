@@ -1,14 +1,13 @@
 -- The split of a patch, leaf by leaf.
 use mathlib.Core.Path.{_≡_, refl, sym, ap, _∙_}
 use mathlib.Core.List.{List, [], _∷_}
-use Prim.Native.Nat.{ℕ, zero, suc, _+_, _-_, _*_, _/_, _≤_, _<_}
+use Prim.Native.Nat.{ℕ, suc, _+_, _-_, _*_, _≤_, _<_}
 use native.Mathlib.Omega.{arith}
 use native.Mathlib.Numerals.{add-one}
 use lib.ListN.{length, getD, drop}
 use lib.Seq.{drop-cons, drop-length}
-use Rattle.tables.specs.Layout.{rowWidth}
 use Rattle.tables.proofs.laws.View.{length-up-to, up-to-at}
-use Rattle.run.specs.Run.{cut, cutAll}
+use Rattle.run.specs.Run.{cutAll}
 use Rattle.closure.specs.State.{rowsOf, patchAt, scratchLength, patchIn, State, Splittable, Halves, Patchable, Parted}
 
 -- the list in the scratch table, by place

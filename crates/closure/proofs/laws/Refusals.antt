@@ -9,11 +9,10 @@ use Rattle.tables.specs.declared.layout.Counts.{Counts}
 use Rattle.tables.specs.Mesh.{Lent, meshOf}
 use Rattle.forest.specs.Element.{Name, Forest, Element}
 use Rattle.forest.proofs.History.{called-forced}
-use Rattle.intake.specs.declared.answer.Found.{Found}
 use Rattle.intake.specs.declared.answer.Found.the-variants.{At, Nowhere}
 use Rattle.intake.specs.Search.{first}
 use Rattle.intake.specs.First.{FirstAt, None}
-use Rattle.intake.proofs.laws.First.{first-found, found-first, first-nowhere, none-first}
+use Rattle.intake.proofs.laws.First.{first-found, found-first, none-first}
 use Rattle.sound.specs.Sound.{Sound}
 use Rattle.sound.specs.Forest.{forestOf}
 use Rattle.run.specs.Demand.{DeepIn, HalvedIn, OutgrowsIn, rows, vertices, Needed, Deep, Outgrows}

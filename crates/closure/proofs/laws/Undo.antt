@@ -9,7 +9,6 @@ use native.Mathlib.Omega.{arith}
 use borrow.Author.Tests.{lt-ltb, le-ltb, le-leb, lt-leb}
 use lib.Dec.{leb, ltb}
 use lib.ListN.{length}
-use Rattle.split.specs.declared.row.Row.{Row}
 use Rattle.split.proofs.laws.Places.{le-or-lt}
 use Rattle.tables.specs.Layout.{rowWidth, recordWidth, noRow, noRecord, rowAt, recordAt, putRow}
 use Rattle.tables.proofs.laws.Table.{Table, at-put, length-put}

@@ -1,11 +1,11 @@
 -- The split of one leaf keeps everything in sound tables but their last condition (01, "Sound tables", clauses 2 to 6).
 use mathlib.Core.Path.{_≡_, refl, sym, ap, _∙_}
 use mathlib.Core.List.{List, [], _∷_, _++_, map}
-use mathlib.Core.Logic.{_⊎_, inl, inr}
-use Prim.Native.Nat.{ℕ, zero, suc, _+_, _≤_, _<_}
+use mathlib.Core.Logic.{inl, inr}
+use Prim.Native.Nat.{ℕ, _+_, _≤_, _<_}
 use native.Mathlib.Decide.{ℕ-discrete}
 use native.Mathlib.Omega.{arith}
-use lib.ListN.{length, take}
+use lib.ListN.{take}
 use Rattle.split.specs.declared.row.Row.{Row}
 use Rattle.split.specs.declared.row.Ends.{Ends}
 use Rattle.split.specs.Split.{Side, left, right, number, far, at}
@@ -18,8 +18,8 @@ use Rattle.split.proofs.laws.Ends.{ends-rising, ends-falling}
 use Rattle.split.proofs.laws.Rows.{row-step, deeper-is}
 use Rattle.tables.specs.declared.record.Record.{Record}
 use Rattle.tables.specs.Mesh.{Mesh, flat}
-use Rattle.sound.specs.Sound.{vertices, rows, pointOf, recordOf, rowOf, childless, vertexCells, givenPoints, givenElements, Parted, Afresh, Records, place, Child, Parent, Midpoint, Grown}
-use Rattle.sound.proofs.laws.Placed.{Placed, placed, row-distinct}
+use Rattle.sound.specs.Sound.{vertices, rows, pointOf, recordOf, rowOf, childless, vertexCells, givenElements, Parted, Afresh, Records, place, Child, Parent, Midpoint, Grown}
+use Rattle.sound.proofs.laws.Placed.{placed, row-distinct}
 use Rattle.run.specs.Run.{withChild}
 
 -- m' is m with the leaf s split at the vertex v, which may be new

@@ -1,18 +1,17 @@
 -- A leaf that holds both ends of another row's edge: how deep it is, and which edge comes first.
 use mathlib.Core.Path.{_≡_, refl, sym, ap, _∙_}
 use mathlib.Core.Logic.{_⊎_, inl, inr}
-use Prim.Native.Nat.{ℕ, _+_, _*_, _≤_, _<_}
+use Prim.Native.Nat.{ℕ, _≤_, _<_}
 use native.Mathlib.Omega.{arith}
 use Rattle.split.specs.declared.row.Row.{Row}
 use Rattle.split.specs.declared.row.Ends.{Ends}
-use Rattle.split.specs.Split.{number, far, at, Holds}
-use Rattle.split.specs.Row.{cornersOf, tagOf, pair, ends, edgeOf}
+use Rattle.split.specs.Split.{number, far, Holds}
+use Rattle.split.specs.Row.{cornersOf, tagOf, ends, edgeOf}
 use Rattle.split.proofs.laws.Places.{le-or-lt}
 use Rattle.split.proofs.laws.Tags.{tag-range}
 use Rattle.split.proofs.laws.Children.{far-at}
 use Rattle.tables.specs.Mesh.{Mesh}
-use Rattle.forest.specs.Element.{Element, depth, shape, near, away, HoldsEdge}
-use Rattle.forest.specs.Generation.{rank, edgeGen}
+use Rattle.forest.specs.Element.{depth, shape, near, away, HoldsEdge}
 use Rattle.forest.proofs.Shallow.{too-deep}
 use Rattle.forest.proofs.Blocking.{SameEdge}
 use Rattle.forest.proofs.Theory.{blocking}
@@ -21,7 +20,7 @@ use Rattle.sound.specs.Forest.{forestOf, colourIn, largestIn, nameOf, elementOf
 use Rattle.run.specs.Ready.{edgeRank}
 use Rattle.sound.proofs.laws.Afresh.{coloured}
 use Rattle.sound.proofs.laws.Names.{one-vertex, kept, swapped, sorted-ends}
-use Rattle.sound.proofs.laws.Placed.{Placed, placed, placed-at, placed-near, placed-away, placed-fits, row-fits}
+use Rattle.sound.proofs.laws.Placed.{Placed, placed, placed-at, placed-near, placed-away, row-fits}
 
 -- the row holds both ends of e
 pub record Both (r : Row) (e : Ends) : Type 0 where

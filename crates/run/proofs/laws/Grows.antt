@@ -1,25 +1,23 @@
 -- What stays when leaves are split: old rows but for their first children, names of vertices, elements of rows.
 use mathlib.Core.Path.{_≡_, refl, sym, ap, _∙_, fun-ext}
-use mathlib.Core.List.{List, map}
-use mathlib.Core.Logic.{_⊎_, inl, inr}
-use Prim.Native.Nat.{ℕ, zero, suc, _+_, _≤_, _<_}
-use native.Mathlib.Decide.{ℕ-discrete}
+use mathlib.Core.List.{List}
+use mathlib.Core.Logic.{inl, inr}
+use Prim.Native.Nat.{ℕ, zero, suc, _≤_, _<_}
 use native.Mathlib.Omega.{arith}
 use lib.ListN.{getD, take, List·getD-map}
 use Rattle.split.specs.declared.row.Row.{Row}
-use Rattle.split.specs.Split.{Side, left, right, Corners, three}
+use Rattle.split.specs.Split.{three}
 use Rattle.split.specs.Row.{cornersOf}
 use Rattle.split.proofs.laws.Places.{le-or-lt}
 use Rattle.tables.specs.declared.record.Record.{Record}
 use Rattle.tables.specs.Layout.{noRecord, noRow}
 use Rattle.tables.specs.Mesh.{Mesh}
-use Rattle.forest.specs.Element.{Name, Forest, Element}
-use Rattle.sound.specs.Sound.{vertices, rows, recordOf, rowOf, childless, place, Grown}
-use Rattle.sound.specs.Forest.{forestOf, colourIn, largestIn, joint, nameOf, grown, elementOf, SplitOf}
+use Rattle.sound.specs.Sound.{vertices, rows, recordOf, rowOf, childless, Grown}
+use Rattle.sound.specs.Forest.{forestOf, colourIn, largestIn, nameOf, elementOf}
 use Rattle.sound.proofs.laws.Names.{name-initial, name-midpoint}
 use Rattle.sound.proofs.laws.Elements.{root-element, child-element}
-use Rattle.sound.proofs.laws.Offspring.{place-apart, place-element}
-use Rattle.run.proofs.laws.Cuts.{Cuts, row-kept, split-kept, parent-kept, before, next, either, cut-grown}
+use Rattle.sound.proofs.laws.Offspring.{place-apart}
+use Rattle.run.proofs.laws.Cuts.{Cuts, row-kept, split-kept, parent-kept, cut-grown}
 
 pub record Grows (m m' : Mesh) (i t : ℕ) : Type 0 where
   pub more-rows : rows m ≤ rows m'

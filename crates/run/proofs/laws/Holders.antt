@@ -2,7 +2,7 @@
 use mathlib.Core.Path.{_≡_, refl, sym, ap, _∙_}
 use mathlib.Core.Bool.{Bool, true, false, _&&_, _||_, cond, or-true}
 use mathlib.Core.List.{List, [], _∷_, List·Memᴰ, List·Memᴰ·head, List·Memᴰ·tail, List·Memᴰ·cases-cons, List·Memᴰ·not-nil}
-use mathlib.Core.Logic.{_⊎_, inl, inr}
+use mathlib.Core.Logic.{inl, inr}
 use Prim.Native.Nat.{ℕ, zero, suc, _+_, _≤_, _<_}
 use native.Mathlib.Decide.{ℕ-discrete}
 use native.Mathlib.Omega.{arith}
@@ -13,11 +13,10 @@ use Rattle.split.specs.declared.row.Row.{Row}
 use Rattle.split.specs.declared.row.Ends.{Ends}
 use Rattle.split.specs.Split.{Corners, at, Holds}
 use Rattle.split.specs.Row.{cornersOf, edgeOf}
-use Rattle.intake.specs.declared.answer.Found.{Found}
 use Rattle.intake.specs.declared.answer.Found.the-variants.{At, Nowhere}
 use Rattle.sound.proofs.laws.Searches.{and-both}
 use Rattle.run.specs.Skeleton.{rowIn}
-use Rattle.run.specs.Run.{has, holding, holdersFrom, holders, sameEnds, otherIn, blocking}
+use Rattle.run.specs.Run.{has, holding, holdersFrom, holders, sameEnds, otherIn}
 
 -- ---- tests as statements
 

@@ -4,33 +4,31 @@ use mathlib.Core.List.{List, [], _∷_, _++_, List·Memᴰ, List·Memᴰ·head, 
 use mathlib.Core.Logic.{_⊎_, inl, inr}
 use Prim.Native.Nat.{ℕ, _+_, _≤_, _<_}
 use native.Mathlib.Omega.{arith}
-use lib.ListN.{length, getD, take, length-append, List·getD-append}
+use lib.ListN.{length, getD, length-append, List·getD-append}
 use lib.Seq.{take-append-le}
 use Rattle.split.specs.declared.row.Row.{Row}
 use Rattle.split.specs.declared.row.Ends.{Ends}
 use Rattle.split.specs.declared.point.Point.{Point}
-use Rattle.split.specs.Split.{number, far, at, Holds, Side}
-use Rattle.split.specs.Row.{cornersOf, tagOf, childOf, edgeOf}
+use Rattle.split.specs.Split.{far, at, Holds}
+use Rattle.split.specs.Row.{cornersOf, tagOf, edgeOf}
 use Rattle.split.proofs.laws.Places.{le-or-lt}
 use Rattle.split.proofs.laws.Tags.{tag-range}
 use Rattle.split.proofs.laws.Children.{not-both, from-parent}
 use Rattle.split.proofs.laws.Rows.{vertices-step}
-use Rattle.tables.specs.declared.record.Record.{Record}
 use Rattle.tables.specs.Layout.{noPoint, noRecord}
 use Rattle.tables.specs.Mesh.{Mesh}
-use Rattle.intake.specs.declared.answer.Found.the-variants.{At, Nowhere}
-use Rattle.sound.specs.Sound.{vertices, rows, pointOf, recordOf, rowOf, Records, Grown, Conforming}
+use Rattle.intake.specs.declared.answer.Found.the-variants.{Nowhere}
+use Rattle.sound.specs.Sound.{vertices, rows, recordOf, rowOf, Records, Grown, Conforming}
 use Rattle.sound.proofs.laws.Leaves.{leaf-whole}
 use Rattle.sound.proofs.laws.Placed.{placed, row-distinct}
 use Rattle.run.specs.Skeleton.{Skeleton, rowIn, meshed}
 use Rattle.run.specs.Ready.{Ready}
 use Rattle.run.specs.Run.{holders, blocking, cut, cutAll, recordFor, splitPatch}
-use Rattle.run.proofs.laws.Cuts.{Cuts, edge-childless, edge-spread, row-kept, cut-grown}
+use Rattle.run.proofs.laws.Cuts.{Cuts, edge-spread, cut-grown}
 use Rattle.run.proofs.laws.Listed.{append-first, cut-length, cut-old, cut-own, cut-first, cut-second, cut-kept}
 use Rattle.run.proofs.laws.Points.{halfway, points-length, points-next}
-use Rattle.run.proofs.laws.Holders.{Held, holders-only, holders-has, Once, nil, one, holders-once, clear-edges}
+use Rattle.run.proofs.laws.Holders.{holders-only, holders-has, Once, nil, one, holders-once, clear-edges}
 use Rattle.run.proofs.laws.Edge.{Both, both-ends, own-both, edge-shallow}
-use Rattle.run.proofs.laws.Grows.{Grows}
 use Rattle.run.proofs.laws.Patched.{Remains, Born, Patched, patched-none, patched-cut}
 
 -- a leaf that may be split

@@ -1,8 +1,8 @@
 -- Leaves split one after the other at one vertex: what is split, and what the leaves are then.
-use mathlib.Core.Path.{_≡_, refl, sym, ap, _∙_}
+use mathlib.Core.Path.{_≡_, refl, ap, _∙_}
 use mathlib.Core.List.{List, [], _∷_, List·Memᴰ, List·Memᴰ·head, List·Memᴰ·tail, List·Memᴰ·cases-cons, List·Memᴰ·not-nil}
 use mathlib.Core.Logic.{_⊎_, inl, inr}
-use Prim.Native.Nat.{ℕ, zero, suc, _+_, _*_, _≤_, _<_}
+use Prim.Native.Nat.{ℕ, _+_, _*_, _<_}
 use native.Mathlib.Decide.{ℕ-discrete}
 use native.Mathlib.Omega.{arith}
 use lib.ListN.{length}
@@ -11,8 +11,8 @@ use Rattle.split.specs.Split.{Side}
 use Rattle.split.specs.Row.{cornersOf, childOf}
 use Rattle.split.proofs.laws.Rows.{row-step}
 use Rattle.tables.specs.Mesh.{Mesh}
-use Rattle.sound.specs.Sound.{rows, rowOf, place, Grown}
-use Rattle.run.proofs.laws.Cuts.{Cuts, Either, born, before, next, either, cut-grown}
+use Rattle.sound.specs.Sound.{rows, rowOf, Grown}
+use Rattle.run.proofs.laws.Cuts.{Cuts, Either, born, before, next, either}
 use Rattle.run.proofs.laws.Grows.{Grows, grows-same, grows-on, cut-grows}
 
 -- a leaf of m that is not one of ss

@@ -1,9 +1,9 @@
 -- What refining leaves one after the other leads to, and that the edge of the leaf that blocks comes first.
-use mathlib.Core.Path.{_≡_, refl, sym, ap, subst, _∙_}
+use mathlib.Core.Path.{_≡_, refl, sym, subst, _∙_}
 use mathlib.Core.Bool.{Bool, true, false}
-use mathlib.Core.List.{List, [], _∷_}
+use mathlib.Core.List.{List, []}
 use mathlib.Core.Logic.{inl, inr}
-use Prim.Native.Nat.{ℕ, zero, suc, _+_, _≤_, _<_}
+use Prim.Native.Nat.{ℕ, zero, suc, _≤_, _<_}
 use native.Mathlib.Omega.{arith}
 use borrow.Author.Tests.{eq-eqb, ne-eqb}
 use lib.Dec.{eqb}
@@ -11,16 +11,15 @@ use lib.ListN.{length, getD}
 use Rattle.split.specs.declared.point.Point.{Point}
 use Rattle.split.proofs.laws.Places.{le-or-lt}
 use Rattle.tables.specs.Layout.{noRecord}
-use Rattle.tables.specs.Mesh.{Mesh}
 use Rattle.forest.specs.Element.{Element}
-use Rattle.intake.specs.declared.answer.Found.the-variants.{At, Nowhere}
+use Rattle.intake.specs.declared.answer.Found.the-variants.{At}
 use Rattle.intake.specs.Search.{count}
-use Rattle.sound.specs.Forest.{largestIn, elementWithin, elementOf}
+use Rattle.sound.specs.Forest.{largestIn, elementWithin}
 use Rattle.run.specs.Skeleton.{Skeleton, rowIn, meshed}
 use Rattle.run.specs.Ready.{Ready, Open, Reach, here, onward, edgeRank, rankIn}
 use Rattle.run.specs.Run.{blocking, Run}
 use Rattle.run.proofs.laws.Grows.{Grows, grows-same, grows-on}
-use Rattle.run.proofs.laws.Runs.{Refined, run-records, rank-kept, block-open, block-falls, still-open, run-refined}
+use Rattle.run.proofs.laws.Runs.{Refined, rank-kept, block-open, block-falls, still-open, run-refined}
 
 -- the set of all elements is closed, so nothing is asked of what is split
 abbrev any : Element → Type 0

@@ -1,5 +1,5 @@
 -- What refining one leaf does: sound tables stay so, the leaf is split, everything split lies in every closed set that holds what was split before and the leaf, and no edge of a later generation is halved.
-use mathlib.Core.Path.{_≡_, refl, sym, ap, subst, _∙_}
+use mathlib.Core.Path.{_≡_, sym, ap, subst, _∙_}
 use mathlib.Core.List.{List, [], _∷_, List·Memᴰ}
 use mathlib.Core.Logic.{_⊎_, inl, inr}
 use Prim.Native.Nat.{ℕ, _+_, _≤_, _<_}
@@ -8,24 +8,23 @@ use native.Mathlib.Omega.{arith}
 use lib.ListN.{length, length-append}
 use Rattle.split.specs.declared.row.Row.{Row}
 use Rattle.split.specs.declared.point.Point.{Point}
-use Rattle.split.specs.Split.{Side}
 use Rattle.split.specs.Row.{edgeOf}
 use Rattle.tables.specs.Mesh.{Mesh}
-use Rattle.forest.specs.Element.{Forest, Element, shape, HoldsEdge}
+use Rattle.forest.specs.Element.{Element}
 use Rattle.forest.specs.Closed.{Closed}
 use Rattle.forest.proofs.Forced.{present-in}
 use Rattle.intake.specs.declared.answer.Found.the-variants.{At, Nowhere}
-use Rattle.sound.specs.Sound.{vertices, rows, rowOf, Grown}
-use Rattle.sound.specs.Forest.{forestOf, colourIn, largestIn, elementOf, SplitOf}
+use Rattle.sound.specs.Sound.{rows}
+use Rattle.sound.specs.Forest.{forestOf, elementOf, SplitOf}
 use Rattle.sound.proofs.laws.Splits.{row-present}
 use Rattle.run.specs.Skeleton.{Skeleton, rowIn, meshed}
 use Rattle.run.specs.Ready.{Ready, Open, edgeRank}
 use Rattle.run.specs.Run.{holders, blocking, recordFor, splitPatch, Run, clear, blocked}
-use Rattle.run.proofs.laws.Holders.{holders-only, holders-has, clear-edges, other-listed}
+use Rattle.run.proofs.laws.Holders.{holders-only, holders-has, other-listed}
 use Rattle.run.proofs.laws.Edge.{Both, own-both, holds-edge, edge-shallow, edge-falls, edge-most}
 use Rattle.run.proofs.laws.Grows.{Grows, grows-on}
 use Rattle.run.proofs.laws.Patched.{Split, Patched}
-use Rattle.run.proofs.laws.Patch.{patch-patched, patch-records, patch-ready}
+use Rattle.run.proofs.laws.Patch.{patch-patched, patch-ready}
 
 -- the split elements all lie in Z
 abbrev pub Inside : Mesh → ℕ → (Element → Type 0) → Type 0

@@ -1,16 +1,11 @@
 -- The shape as a whole: a leading run ends at one place, and what each answer says.
 use mathlib.Core.Path.{_≡_, refl, sym}
-use mathlib.Core.Bool.{Bool, true, false}
 use mathlib.Core.List.{List, []}
-use Prim.Native.Nat.{ℕ, _≤_, _<_}
+use Prim.Native.Nat.{ℕ}
 use native.Mathlib.Omega.{arith}
 use lib.Ieee.{Float}
 use Rattle.split.proofs.laws.Places.{less, equal, more, against}
 use Rattle.tables.specs.declared.layout.Counts.{Counts}
-use Rattle.tables.specs.Layout.{recordAt, rowAt}
-use Rattle.tables.specs.Mesh.{Unused}
-use Rattle.sound.specs.Sound.{Fitting}
-use Rattle.sound.specs.Check.{Decides, lent}
 use Rattle.shape.specs.declared.answer.Shape.{Shape}
 use Rattle.shape.specs.declared.answer.Shape.the-variants.{Not, Runs}
 use Rattle.shape.specs.Shape.{Inside, Initials, Roots, Begun, Half, Shapely, Shapes}

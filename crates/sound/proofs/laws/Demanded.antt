@@ -5,21 +5,18 @@ use Prim.Native.Nat.{ℕ, _/_, _<_}
 use native.Mathlib.Omega.{arith}
 use lib.ListN.{length}
 use lib.Ieee.{Float}
-use Rattle.split.specs.declared.point.Point.{Point}
-use Rattle.split.specs.declared.row.Row.{Row}
 use Rattle.tables.specs.declared.layout.Counts.{Counts}
-use Rattle.tables.specs.declared.record.Record.{Record}
 use Rattle.tables.specs.Layout.{pointAt, recordAt, rowAt}
-use Rattle.tables.specs.Mesh.{Lent, Mesh, meshOf, laid}
+use Rattle.tables.specs.Mesh.{Lent, Mesh, laid}
 use Rattle.tables.proofs.laws.View.{mesh-row, mesh-record, mesh-point}
 use Rattle.intake.specs.declared.answer.Verdict.{Verdict}
 use Rattle.intake.specs.declared.answer.Verdict.the-variants as verdict
 use Rattle.opening.specs.declared.answer.Opened.the-variants as answer
 use Rattle.opening.specs.Colours.{colours, largest}
-use Rattle.opening.specs.Order.{sorted, given, rootOf}
+use Rattle.opening.specs.Order.{given, rootOf}
 use Rattle.opening.specs.Opening as opening
 use Rattle.opening.specs.Opening.{initial, judged, openedMesh, verdictOn, Opens}
-use Rattle.opening.specs.Demanded.{Largest, AsRoot, OpenedAsDemanded}
+use Rattle.opening.specs.Demanded.{AsRoot, OpenedAsDemanded}
 use Rattle.opening.proofs.laws.Proper.{colours-most, colours-reached}
 use Rattle.opening.proofs.laws.Greedy.{colours-greedy}
 use Rattle.opening.proofs.laws.Sorted.{sorted-of, sorted-has, sorted-started}

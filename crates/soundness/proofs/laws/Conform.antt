@@ -6,7 +6,7 @@ use mathlib.Core.Logic.{_⊎_, inl, inr}
 use Prim.Native.Nat.{ℕ, zero, suc, _≤_, _<_, min, max}
 use native.Mathlib.Omega.{arith}
 use Rattle.split.specs.declared.row.Row.{Row}
-use Rattle.split.specs.Split.{Corners, at, Holds}
+use Rattle.split.specs.Split.{at, Holds}
 use Rattle.split.specs.Row.{cornersOf}
 use Rattle.split.proofs.laws.Places.{le-or-lt}
 use Rattle.tables.specs.Layout.{recordAt, rowAt}

@@ -1,29 +1,21 @@
 -- Clause 6: equal floats and points, the rule, and the flags of the midpoints.
-use mathlib.Core.Path.{_≡_, refl, sym, ap, _∙_}
-use mathlib.Core.Logic.{_⊎_, inl, inr}
+use mathlib.Core.Path.{_≡_, sym, ap, _∙_}
 use mathlib.Core.Bool.{Bool, true, false, true≢false}
 use mathlib.Core.List.{List}
-use Prim.Native.Nat.{ℕ, _+_, _≤_, _<_}
-use native.Mathlib.Decide.{ℕ-discrete}
+use Prim.Native.Nat.{ℕ, _≤_, _<_}
 use native.Mathlib.Omega.{arith}
 use lib.Dec.{eqb}
 use lib.Ieee.{Float, binary64, fits, ne, ofBits, toBits}
 use lib.Ieee.Bits.{ofBits-toBits}
 use lib.Ieee.Compare.{differs-from-itself}
-use lib.ListN.{length, getD, set, length-set}
-use lib.Seq.{getD-set-same, getD-set-other}
 use borrow.Author.Tests.{eqb-true, eqb-false}
 use denote.Floats.{passes}
 use Rattle.split.specs.declared.point.Point.{Point}
-use Rattle.split.specs.declared.row.Row.{Row}
-use Rattle.split.specs.Split.{far}
-use Rattle.split.specs.Row.{readTag, cornersOf}
 use Rattle.split.specs.Midpoint.{between}
 use Rattle.tables.specs.declared.record.Record.{Record}
-use Rattle.tables.specs.Layout.{pointAt, recordAt, rowAt}
+use Rattle.tables.specs.Layout.{pointAt, recordAt}
 use Rattle.sound.specs.Check.{Decides}
 use Rattle.soundness.specs.Check.{Ruled}
-use Rattle.shape.specs.Shape.{middleAt, Marked}
 use Rattle.sound.proofs.laws.Deciding.{decides-false, decides-same}
 
 -- ---- equal floats

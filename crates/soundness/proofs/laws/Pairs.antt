@@ -15,7 +15,7 @@ use Rattle.tables.specs.declared.record.Record.{Record}
 use Rattle.tables.specs.Layout.{recordAt}
 use Rattle.opening.proofs.laws.Filling.{Cleared}
 use Rattle.sound.specs.Check.{Decides}
-use Rattle.soundness.specs.Check.{Zeroed, Run, heads, keyOf, pairAt, Has, Untaken, Single, AllSingle, Fresh, Entered}
+use Rattle.soundness.specs.Check.{Zeroed, Run, heads, keyOf, pairAt, Has, Untaken, Single, Fresh, Entered}
 use Rattle.sound.proofs.laws.Deciding.{decides-true, decides-false, decides-same, refused, granted, Swept, swept-none, swept-on, swept-all, swept-failed}
 use Rattle.soundness.proofs.laws.Chains.{Walked, walked-on}
 

@@ -1,11 +1,11 @@
 -- The steps of the check put together: a table that is all zero, and what each answer says of the whole.
-use mathlib.Core.Path.{_≡_, refl, sym, _∙_}
+use mathlib.Core.Path.{_≡_, _∙_}
 use mathlib.Core.Bool.{Bool, true, false, not}
-use mathlib.Core.List.{List, []}
+use mathlib.Core.List.{List}
 use mathlib.Core.Logic.{_⊎_, inl, inr}
 use Prim.Native.Nat.{ℕ, _≤_, _<_}
 use native.Mathlib.Omega.{arith}
-use lib.ListN.{length, getD, List·getD-eq-default}
+use lib.ListN.{getD, List·getD-eq-default}
 use lib.Ieee.{Float}
 use Rattle.split.proofs.laws.Places.{le-or-lt}
 use Rattle.tables.specs.declared.layout.Counts.{Counts}

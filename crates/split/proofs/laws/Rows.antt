@@ -3,7 +3,7 @@ use mathlib.Core.Path.{_≡_, refl}
 use Prim.Native.Nat.{ℕ, _+_, _<_}
 use borrow.Author.Tests.{lt-ltb}
 use Rattle.split.specs.declared.row.Row.{Row}
-use Rattle.split.specs.Split.{Tag, three, Side, left, right, child, after}
+use Rattle.split.specs.Split.{three, Side, left, right, child, after}
 use Rattle.split.specs.Row.{cornersOf, tagOf, below, deeper, firstOf, secondOf, childOf}
 use Rattle.split.proofs.laws.Tags.{tag-number}
 

@@ -1,10 +1,10 @@
 -- From what was read to what is written.
-use mathlib.Core.Path.{_≡_, refl, sym, ap, _∙_, subst}
-use mathlib.Core.List.{List, [], _∷_, _++_}
+use mathlib.Core.Path.{_≡_, refl, sym, ap, _∙_}
+use mathlib.Core.List.{List}
 use Prim.Native.Nat.{ℕ, _/_, _≤_}
 use native.Mathlib.Omega.{arith}
 use lib.Ieee.{Float}
-use lib.ListN.{length, take, replicate, length-append, length-replicate}
+use lib.ListN.{length, take}
 use lib.Seq.{sets, length-take-le}
 use Rattle.tables.specs.declared.layout.Counts.{Counts}
 use Rattle.tables.specs.Mesh.{Lent, laid}
@@ -20,11 +20,11 @@ use Rattle.sound.proofs.laws.Opened.{opened-sound}
 use Rattle.text.specs.declared.input.Used.{Used}
 use Rattle.text.specs.declared.input.Read.{Read}
 use Rattle.text.specs.declared.input.Read.the-variants as read
-use Rattle.text.specs.Input.{Input, input, Reading, all, refused, readAll}
-use Rattle.text.specs.Reading.{inputOf, Sized, Reads}
+use Rattle.text.specs.Input.{input, Reading, all, refused, readAll}
+use Rattle.text.specs.Reading.{Reads}
 use Rattle.text.specs.Putting.{Puts}
 use Rattle.text.specs.Program.{headline, Refining, opens, openedTables, Outcome, Answer, Program, Writes}
-use Rattle.text.specs.Working.{Held, Finishes, Answers}
+use Rattle.text.specs.Working.{Finishes, Answers}
 
 refused-not : {n p : ℕ} {c : Counts} → opened.Refused n p ≡ opened.Done c → ⊥
 refused-not q = let z : _≡_ {A = ℕ} 0 1 = cc in omega (arith, z)

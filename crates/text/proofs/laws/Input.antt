@@ -1,13 +1,12 @@
 -- Filling the lists, line by line.
-use mathlib.Core.Path.{_≡_, refl, sym, ap, _∙_}
-use mathlib.Core.Bool.{Bool, true, false}
+use mathlib.Core.Path.{_≡_, sym, ap, _∙_}
 use mathlib.Core.List.{List, [], _∷_, _++_}
-use Prim.Native.Nat.{ℕ, zero, suc, _+_, _-_, _≤_, _<_}
+use Prim.Native.Nat.{ℕ, suc, _+_, _-_, _≤_, _<_}
 use native.Mathlib.Numerals.{add-one}
 use native.Mathlib.Omega.{arith}
 use borrow.Author.Tests.{lt-ltb, le-ltb, eq-eqb, ne-eqb}
 use lib.ListN.{length, take, drop, set, length-set, length-append}
-use lib.Seq.{sets, sets-eq, take-at, length-take-le, drop-cons, drop-length, drop-drop}
+use lib.Seq.{sets, sets-eq, take-at, length-take-le}
 use lib.Ieee.{Float}
 use Rattle.fields.specs.declared.line.Line.{Line}
 use Rattle.fields.specs.declared.line.Line.the-variants as line

@@ -1,11 +1,10 @@
 -- Line after line.
 use mathlib.Core.Path.{_≡_, refl, sym, ap, _∙_}
-use mathlib.Core.Bool.{Bool, true, false}
-use mathlib.Core.List.{List, [], _∷_, _++_}
-use Prim.Native.Nat.{ℕ, zero, suc, _+_, _-_, _≤_, _<_}
+use mathlib.Core.List.{List, [], _∷_}
+use Prim.Native.Nat.{ℕ, suc, _+_, _-_, _≤_, _<_}
 use native.Mathlib.Numerals.{add-one}
 use native.Mathlib.Omega.{arith}
-use borrow.Author.Tests.{eq-eqb, ne-eqb}
+use borrow.Author.Tests.{ne-eqb}
 use lib.ListN.{length, take, drop, length-drop}
 use lib.Seq.{drop-drop, drop-length}
 use lib.Ieee.{Float}
@@ -16,11 +15,10 @@ use Rattle.text.specs.declared.input.Step.{Step}
 use Rattle.text.specs.declared.input.Step.the-variants as step
 use Rattle.text.specs.declared.input.Turn.{Turn}
 use Rattle.text.specs.declared.input.Turn.the-variants as turn
-use Rattle.text.specs.declared.input.Read.{Read}
 use Rattle.text.specs.declared.input.Read.the-variants as read
 use Rattle.fields.specs.Field.{parts, before, stopOf}
 use Rattle.fields.specs.Line.{lineOf, reported}
-use Rattle.text.specs.Input.{Input, Taken, taken, fault, takes, Reading, all, refused, readFrom, readAll}
+use Rattle.text.specs.Input.{Input, Taken, taken, fault, takes, all, refused, readFrom, readAll}
 use Rattle.text.specs.Reading.{inputOf, Fits, Sized, Takes, Ready, Turns, Reads}
 use Rattle.fields.proofs.laws.Reports.{line-reported}
 use Rattle.fields.proofs.laws.Fields.{Inside, parts-some, parts-more, parts-last, parts-none, part, part-order, part-fits}

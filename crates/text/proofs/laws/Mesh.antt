@@ -1,8 +1,8 @@
 -- The text of a refined mesh, put together.
-use mathlib.Core.Path.{_≡_, refl, sym, ap, _∙_, subst}
-use mathlib.Core.List.{List, [], _∷_, _++_, map}
+use mathlib.Core.Path.{_≡_, refl, sym, _∙_}
+use mathlib.Core.List.{List, _++_, map}
 use mathlib.Core.Logic.{inl, inr}
-use Prim.Native.Nat.{ℕ, zero, suc, _+_, _-_, _*_, _/_, _≤_, _<_, min}
+use Prim.Native.Nat.{ℕ, zero, suc, _+_, _-_, _*_, _≤_, _<_}
 use native.Mathlib.Omega.{arith}
 use borrow.Author.Tests.{eq-eqb, ne-eqb}
 use lib.Ieee.{Float}
@@ -12,9 +12,7 @@ use Rattle.tables.specs.declared.layout.Counts.{Counts}
 use Rattle.tables.specs.Layout.{roomOf}
 use Rattle.tables.specs.Mesh.{Lent, meshOf, padded}
 use Rattle.tables.specs.Report.{done, refusal}
-use Rattle.intake.specs.Search.{count}
 use Rattle.opening.proofs.laws.Counting.{count-below}
-use Rattle.sound.specs.Sound.{Sound}
 use Rattle.sound.specs.Check.{lent}
 use Rattle.closure.specs.declared.answer.Refined.{Refined}
 use Rattle.closure.specs.declared.answer.Refined.the-variants as refined
@@ -27,9 +25,9 @@ use Rattle.leaves.specs.Lists.{Accepts, Lists, unsound, sound, short, fits}
 use Rattle.leaves.specs.Walk.{leafAt}
 use Rattle.leaves.proofs.laws.Sound.{sound-listable}
 use Rattle.text.specs.Output.{cLine, pLines, lLines, leafLine, texts}
-use Rattle.text.specs.Putting.{Room, Puts}
+use Rattle.text.specs.Putting.{Puts}
 use Rattle.text.specs.Printing.{PrintsMidpoints, PrintsLeaves}
-use Rattle.text.specs.Program.{headline, leafLines, refinedText, Refining}
+use Rattle.text.specs.Program.{headline, leafLines, refinedText}
 use Rattle.text.specs.Working.{Held, Listable, Printable, Finishes}
 use Rattle.text.proofs.laws.Putting.{puts-both}
 

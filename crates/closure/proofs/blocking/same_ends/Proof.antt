@@ -1,4 +1,3 @@
-use borrow.Author.Needs.{needs}
 use Rattle.closure.proofs.laws.Blocking.{endTests}
 use Rattle.closure.proofs.blocking.same_ends.Statement.{statement}
 use Rattle.closure.proofs.blocking.same_ends.Tie as tie

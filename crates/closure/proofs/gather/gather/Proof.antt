@@ -1,5 +1,4 @@
 use borrow.Author.Needs.{needs}
-use native.Mathlib.Omega.{arith}
 use Rattle.closure.proofs.laws.Gather.{Walk, walking}
 use Rattle.closure.proofs.gather.gather.Statement.{statement}
 use Rattle.closure.proofs.gather.gather.Tie as tie

@@ -1,5 +1,4 @@
 use Prim.Native.Nat.{_-_}
-use native.Mathlib.Omega.{arith}
 use borrow.Author.Needs.{needs}
 use Rattle.closure.proofs.laws.Patch.{Turn, turning}
 use Rattle.closure.proofs.patch.split_patch.Statement.{statement}

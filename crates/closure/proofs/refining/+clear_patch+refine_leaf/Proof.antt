@@ -1,6 +1,5 @@
 use borrow.Author.Needs.{needs}
 use Prim.Native.Nat.{ℕ, _+_, _-_, _*_, _<_}
-use native.Mathlib.Omega.{arith}
 use Rattle.run.specs.Ready.{rankIn}
 use Rattle.closure.specs.State.{seen}
 use Rattle.closure.specs.Refining.{Clearing}

@@ -1,5 +1,5 @@
 use borrow.Author.Needs.{needs}
-use Prim.Native.Nat.{_-_, _≤_}
+use Prim.Native.Nat.{_-_}
 use lib.ListN.{length}
 use Rattle.refined.proofs.show.table.Statement.{statement}
 use Rattle.refined.proofs.show.table.Tie as tie
