@@ -5,6 +5,9 @@ pub mod Patched
 pub mod Holders
 pub mod Points
 pub mod Edge
+pub mod Single
+pub mod Needs
+pub mod Sizes
 pub mod Patch
 pub mod Runs
 pub mod Marks

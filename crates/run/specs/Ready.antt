@@ -21,6 +21,11 @@ pub record Ready (P : List Point) (i t : ℕ) (S : Skeleton) : Type 0 where
   pub grown : Grown (meshed P S) i t
   pub conforming : Conforming (meshed P S) i
 
+-- the same but for clause 7, as between the splits of single leaves (02, L10)
+pub record Growing (P : List Point) (i t : ℕ) (S : Skeleton) : Type 0 where
+  pub based : length P ≤ length (S .records)
+  pub grown : Grown (meshed P S) i t
+
 -- a leaf of depth below 60, so that it may be split
 pub record Open (S : Skeleton) (r : ℕ) : Type 0 where
   pub there : r < length (S .rows)

@@ -19,7 +19,8 @@ use Rattle.run.specs.Skeleton.{Skeleton, skeleton, meshed}
 use Rattle.run.specs.Run.{Within}
 use Rattle.run.specs.Demand.{Needed}
 use Rattle.run.proofs.laws.Grows.{Grows}
-use Rattle.run.proofs.laws.Marks.{AllMarkable, Finished}
+use Rattle.run.proofs.laws.Needs.{AllMarkable}
+use Rattle.run.proofs.laws.Marks.{Finished}
 use Rattle.run.proofs.laws.Demanded.{run-finished, demanded}
 use Rattle.run.proofs.laws.Points.{points-length}
 use Rattle.closure.specs.declared.answer.Refined.the-variants.{Done}

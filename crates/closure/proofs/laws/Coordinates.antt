@@ -10,6 +10,7 @@ use Rattle.tables.specs.Layout.{recordCells, rowCells, recordAt, rowAt, roomOf}
 use Rattle.tables.specs.Mesh.{Lent, meshOf, laid, upTo, flat, padded}
 use Rattle.intake.specs.declared.answer.Found.the-variants.{Nowhere}
 use Rattle.intake.specs.Search.{first}
+use Rattle.intake.proofs.laws.First.{found-never, found-one}
 use Rattle.sound.specs.Sound.{Sound}
 use Rattle.run.specs.Skeleton.{Skeleton, skeleton}
 use Rattle.run.specs.Run.{RunAll, Within}
@@ -22,7 +23,7 @@ use Rattle.closure.specs.Refine.{absent, roomIn, Refuses, Accepts, OnRoo
 use Rattle.closure.proofs.laws.Entry.{roomy}
 use Rattle.frame.proofs.laws.Marks.{deeps}
 use Rattle.closure.proofs.laws.Judged.{marks-deep, marks-shallow}
-use Rattle.closure.proofs.laws.Promise.{done-counts, done-splits, found-one, found-never, judged-by, refused-same}
+use Rattle.closure.proofs.laws.Promise.{done-counts, done-splits, judged-by, refused-same}
 use Rattle.closure.proofs.laws.Within.{run-within}
 use Rattle.closure.proofs.laws.Taken.{was-sound, sound-mesh, sound-ready, sound-within, sound-markable}
 use Rattle.closure.proofs.laws.Accepted.{accepted-points}

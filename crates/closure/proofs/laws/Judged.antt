@@ -23,8 +23,7 @@ use Rattle.sound.proofs.laws.Searches.{and-both}
 use Rattle.sound.specs.Check.{lent}
 use Rattle.sound.proofs.laws.Placed.{placed}
 use Rattle.run.specs.Demand.{Deep}
-use Rattle.run.proofs.laws.Marks.{AllMarkable}
-use Rattle.run.proofs.laws.Demanded.{marked-deep, not-deep}
+use Rattle.run.proofs.laws.Needs.{AllMarkable, marked-deep, not-deep}
 use Rattle.closure.specs.State.{rowsOf, seen}
 use Rattle.frame.specs.Marks.{deepAt}
 use Rattle.frame.proofs.laws.Marks.{deeps}
@@ -92,7 +91,7 @@ module _ {p : List Float} {r w : List ℕ} {c : Counts} (s : Sound (lent p r w) 
       record { there = rw size (y .there); shallow = rw (up-to-at (rowAt w) (c .rows) q noRow (y .there)) (y .shallow) }
 
   pub marks-shallow : first (absent (c .rows) marks) (length marks) ≡ Nowhere → deeps w (c .rows) marks ≡ false → Deep (meshOf (lent p r w) c) (s .roots) marks → ⊥
-  marks-shallow e f d = not-deep (meshOf (lent p r w) c .points) (entry-ready s) (marks-markable e f) (rw (entry-mesh s) d)
+  marks-shallow e f d = not-deep (entry-ready s .grown) (marks-markable e f) (rw (entry-mesh s) d)
 
   pub marks-deep : first (absent (c .rows) marks) (length marks) ≡ Nowhere → deeps w (c .rows) marks ≡ true → Deep (meshOf (lent p r w) c) (s .roots) marks
   unfolding deepAt
@@ -100,4 +99,4 @@ module _ {p : List Float} {r w : List ℕ} {c : Counts} (s : Sound (lent p r w) 
       let (j, h, t) = any-some (λ i. deepAt w (getD marks i 0)) (length marks) f in
       let (leaf, sixty) = and-both (eqb (rowAt w (getD marks j 0) .child) 0) (eqb (rowAt w (getD marks j 0) .depth) 60) t in
       let there = mark-there e j h in
-      rw (entry-mesh s) at (marked-deep (meshOf (lent p r w) c .points) (entry-ready s) (getD marks j 0) (member-at marks j h) (rw size there) (rw (up-to-at (rowAt w) (c .rows) (getD marks j 0) noRow there) (eqb-true _ _ sixty)))
+      rw (entry-mesh s) at (marked-deep (entry-ready s .grown) (getD marks j 0) (member-at marks j h) (rw size there) (rw (up-to-at (rowAt w) (c .rows) (getD marks j 0) noRow there) (eqb-true _ _ sixty)))

@@ -15,7 +15,7 @@ use Rattle.run.specs.Ready.{Reach}
 use Rattle.run.specs.Ready as ready
 use Rattle.run.specs.Run.{RunAll, StuckAll, Within}
 use Rattle.run.specs.Run as run
-use Rattle.run.proofs.laws.Marks.{Markable, markable-later}
+use Rattle.run.proofs.laws.Needs.{Markable, markable-later}
 use Rattle.run.proofs.laws.Reach.{reach-ready, reach-grows, reach-on}
 use Rattle.closure.specs.declared.step.Step.{Step}
 use Rattle.closure.specs.declared.step.Step.the-variants.{Done, Full}
@@ -78,7 +78,7 @@ marking-start x = record { within = omega arith; due = x; runs = λ U p. p; stuc
 fine-later : (r' w' : List ℕ) (d : Counts) {r w s : List ℕ} {c room : Counts} {q : ℕ} → Steady r w s c room → Reach (seen r w c) (seen r' w' d) → Fine w (c .rows) q → Fine w' (d .rows) q
 fine-later r' w' d {r} {w} {c = c} {q = q} y x f =
     let before : Markable (seen r w c) q = record { there = rw (length-up-to (rowAt w) (c .rows)) (f .there); shallow = rw (up-to-at (rowAt w) (c .rows) q noRow (f .there)) (f .shallow) } in
-    let later = markable-later (y .points) (reach-grows x (y .ready)) before in
+    let later = markable-later (reach-grows x (y .ready)) before in
     let there : q < d .rows = omega (arith, later .there, length-up-to (rowAt w') (d .rows)) in
     record { there = there; shallow = rw (← up-to-at (rowAt w') (d .rows) q noRow there) (later .shallow) }
 

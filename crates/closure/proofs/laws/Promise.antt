@@ -8,8 +8,7 @@ use Rattle.split.proofs.laws.Places.{less, equal, more, against}
 use Rattle.tables.specs.declared.layout.Counts.{Counts}
 use Rattle.tables.specs.Mesh.{Lent, Mesh, meshOf, laid}
 use Rattle.tables.specs.Report.{Report}
-use Rattle.intake.specs.declared.answer.Found.{Found}
-use Rattle.intake.specs.declared.answer.Found.the-variants.{At, Nowhere}
+use Rattle.intake.proofs.laws.First.{found-never, found-one}
 use Rattle.sound.specs.Sound.{Parted, Sound}
 use Rattle.run.specs.Skeleton.{Skeleton, meshed}
 use Rattle.run.proofs.laws.Unique.{run-all-unique}
@@ -56,12 +55,6 @@ pub refuses : {t : Lent} {n p : ℕ} {r : Refined} {t' : Lent} → r ≡ Refused
 refuses e l = record { answers = e; reports = ap reported e; leaves = l }
 
 -- ---- two outcomes of one call
-
-pub found-never : {X : Type 0} {f : Found} {p : ℕ} → f ≡ At p → f ≡ Nowhere → X
-found-never a b = let z : _≡_ {A = ℕ} 0 1 = cc in absurd (omega arith)
-
-pub found-one : {f : Found} {p q : ℕ} → f ≡ At p → f ≡ At q → p ≡ q
-found-one a b = cc
 
 abbrev Same : Refined → Lent → Refined → Lent → Type 0
 Same r t' r₂ t₂ = (r ≡ r₂) × (t' ≡ t₂)

@@ -12,7 +12,7 @@ use Rattle.forest.proofs.History.{called-forced}
 use Rattle.intake.specs.declared.answer.Found.the-variants.{At, Nowhere}
 use Rattle.intake.specs.Search.{first}
 use Rattle.intake.specs.First.{FirstAt, None}
-use Rattle.intake.proofs.laws.First.{first-found, found-first, none-first}
+use Rattle.intake.proofs.laws.First.{found-never, found-one, first-found, found-first, none-first}
 use Rattle.sound.specs.Sound.{Sound}
 use Rattle.sound.specs.Forest.{forestOf}
 use Rattle.run.specs.Demand.{DeepIn, HalvedIn, OutgrowsIn, rows, vertices, Needed, Deep, Outgrows}
@@ -22,7 +22,7 @@ use Rattle.closure.specs.declared.answer.Refined.the-variants.{Done, Ref
 use Rattle.closure.specs.Refine.{absent, roomIn, OnRoom, outgrown, fits, OnDepth, deep, shallow, OnMarks, missing, present, Refines, unsound, sound}
 use Rattle.closure.specs.History.{markedBy, History, WithMarks}
 use Rattle.closure.proofs.laws.History.{history-held}
-use Rattle.closure.proofs.laws.Promise.{done-never, found-never, found-one, judged-by, same-number, same-place}
+use Rattle.closure.proofs.laws.Promise.{done-never, judged-by, same-number, same-place}
 
 -- ---- depth and room of two sets with the same members
 

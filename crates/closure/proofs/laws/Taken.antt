@@ -15,7 +15,7 @@ use Rattle.run.specs.Skeleton.{skeleton, meshed}
 use Rattle.run.specs.Ready.{Ready}
 use Rattle.run.specs.Run.{Within}
 use Rattle.run.specs.Demand.{Deep, Outgrows}
-use Rattle.run.proofs.laws.Marks.{AllMarkable}
+use Rattle.run.proofs.laws.Needs.{AllMarkable}
 use Rattle.closure.specs.declared.answer.Refined.the-variants.{Done}
 use Rattle.closure.specs.Refine.{absent, roomIn, Accepts, outgrown, fits, deep, shallow, OnMarks, missing, present, Refines, unsound, sound}
 use Rattle.closure.proofs.laws.Entry.{entry-mesh, entry-ready}

@@ -12,7 +12,7 @@ use Rattle.run.specs.Skeleton.{Skeleton, rowIn, meshed}
 use Rattle.run.specs.Ready.{Ready}
 use Rattle.run.specs.Run.{blocking, splitPatch, Run, clear, blocked, RunAll, done, passed, refined, Within, Over, vertices, rows, Stuck, full, below, after, StuckAll, here}
 use Rattle.run.specs.Demand.{Outgrows}
-use Rattle.run.proofs.laws.Marks.{AllMarkable}
+use Rattle.run.proofs.laws.Needs.{AllMarkable}
 use Rattle.run.proofs.laws.Refused.{no-room}
 
 module _ (room : Counts) where

@@ -10,17 +10,18 @@ use Rattle.intake.specs.Search.{orAt, first}
 use Rattle.intake.specs.First.{FirstAt, None}
 use Rattle.intake.proofs.laws.Search.{first-start, first-passed, first-stopped, first-none}
 
-pub never-found : {X : Type 0} {p : ℕ} → Nowhere ≡ At p → X
-never-found e = let z : _≡_ {A = ℕ} 0 1 = cc in absurd (omega arith)
+-- an answer is not both a place and none, and not two places
+pub found-never : {X : Type 0} {f : Found} {p : ℕ} → f ≡ At p → f ≡ Nowhere → X
+found-never a b = let z : _≡_ {A = ℕ} 0 1 = cc in absurd (omega arith)
 
-pub found-same : {p q : ℕ} → At p ≡ At q → p ≡ q
-found-same e = cc
+pub found-one : {f : Found} {p q : ℕ} → f ≡ At p → f ≡ At q → p ≡ q
+found-one a b = cc
 
 module _ (test : ℕ → Bool) where
   -- 01, "What comes back": the smallest place is given
   pub first-found : (n p : ℕ) → first test n ≡ At p → FirstAt test n p
   unfolding first
-  first-found zero p e = never-found e
+  first-found zero p e = found-never e refl
   first-found (suc n) p e = go (first test n) (test n) refl refl e (first-found n p)
     where
       later : FirstAt test n p → FirstAt test (suc n) p
@@ -28,8 +29,8 @@ module _ (test : ℕ → Bool) where
 
       go : (f : Found) (b : Bool) → first test n ≡ f → test n ≡ b → orAt f b n ≡ At p → (first test n ≡ At p → FirstAt test n p) → FirstAt test (suc n) p
       go (At q) b f t x ih = later (ih (f ∙ x))
-      go Nowhere true f t x ih = let s : n ≡ p = found-same x in record { below = omega arith; holds = rw s at t; not-before = λ q l. first-none test n f q (omega arith) }
-      go Nowhere false f t x ih = never-found x
+      go Nowhere true f t x ih = let s : n ≡ p = found-one refl x in record { below = omega arith; holds = rw s at t; not-before = λ q l. first-none test n f q (omega arith) }
+      go Nowhere false f t x ih = found-never x refl
 
   pub none-first : (n : ℕ) → None test n → first test n ≡ Nowhere
   none-first zero h = first-start test

@@ -19,7 +19,7 @@ use Rattle.sound.specs.Sound.{rows, rowOf, Sound}
 use Rattle.sound.specs.Forest.{splitsIn}
 use Rattle.sound.specs.Check.{lent}
 use Rattle.sound.proofs.laws.Afresh.{root-depth}
-use Rattle.run.proofs.laws.Demanded.{split-shallow}
+use Rattle.run.proofs.laws.Needs.{split-shallow}
 use Rattle.closure.proofs.laws.Blank.{rows-blank}
 use Rattle.closure.proofs.laws.Entry.{roomy}
 use Rattle.closure.proofs.laws.LeafSum.{sound-leaves}

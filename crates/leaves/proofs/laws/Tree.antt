@@ -21,7 +21,7 @@ use Rattle.sound.proofs.laws.Offspring.{place-below, place-element}
 use Rattle.sound.proofs.laws.Splits.{split-row}
 use Rattle.run.specs.Skeleton.{rowIn}
 use Rattle.run.specs.Leaves.{splitIn}
-use Rattle.run.proofs.laws.Demanded.{split-shallow}
+use Rattle.run.proofs.laws.Needs.{split-shallow}
 use Rattle.run.proofs.laws.LeafSum.{split-in}
 use Rattle.leaves.specs.Listing.{listingFrom, weightsOf}
 use Rattle.leaves.proofs.laws.Steps.{listing-end, listing-leaf, listing-split}

@@ -16,7 +16,7 @@ use Rattle.run.specs.Ready.{Ready}
 use Rattle.run.specs.Skeleton.{Skeleton, meshed}
 use Rattle.run.specs.Run.{RunAll}
 use Rattle.run.specs.Demand.{MarkedIn, Needed}
-use Rattle.run.proofs.laws.Marks.{AllMarkable}
+use Rattle.run.proofs.laws.Needs.{AllMarkable}
 use Rattle.run.proofs.laws.Demanded.{run-finished, demanded}
 
 -- m has the roots F, and its split elements are those after the calls, the newest first
@@ -52,10 +52,11 @@ needed-called m t calls rs a e = (forced-monotone there e, forced-monotone back 
     back x (inl s) = inl (a .splits x .1 s)
     back x (inr k) = inr (listed-marked m t rs x k)
 
--- one call more
+-- one call more, however it is made: exactly what it needs is split
+pub after-needed : {m n : Mesh} {t : ℕ} {rs : List ℕ} (F : Forest) (calls : List (List Element)) → forestOf n t ≡ forestOf m t → ((e : Element) → SplitOf n t e ↔ Needed m t rs e) → After m t F calls → After n t F (markedElements m t rs ∷ calls)
+after-needed {m} {n} {t} {rs} F calls f s a = subst (λ (X : Forest). After n t X (markedElements m t rs ∷ calls)) (a .forest) (record { forest = f; splits = λ e. Iff·trans (s e) (needed-called m t calls rs (rw (a .forest) a) e) })
+
+-- and by a run
 module _ (P : List Point) (i t : ℕ) {S S' : Skeleton} {rs : List ℕ} (p : RunAll S rs S') (y : Ready P i t S) (few : length (S' .records) < 4294967295) (k : AllMarkable S rs) where
   pub after-call : (F : Forest) (calls : List (List Element)) → After (meshed P S) t F calls → After (meshed P S') t F (markedElements (meshed P S) t rs ∷ calls)
-  after-call F calls a = subst (λ (X : Forest). After (meshed P S') t X (markedElements (meshed P S) t rs ∷ calls)) (a .forest) (record {
-    forest = run-finished P i t p y few k .grows .forest;
-    splits = λ e. Iff·trans (demanded P i t p y few k e) (needed-called (meshed P S) t calls rs (rw (a .forest) a) e);
-  })
+  after-call F calls a = after-needed F calls (run-finished P i t p y few k .grows .forest) (demanded P i t p y few k) a

@@ -23,7 +23,7 @@ use Rattle.sound.proofs.laws.Splits.{splits-closed, present-row, leaf-row}
 use Rattle.run.specs.Ready.{Ready}
 use Rattle.run.specs.Skeleton.{Skeleton, meshed}
 use Rattle.run.specs.Leaves.{LeafOf, element-same, splitAs, splitIn}
-use Rattle.run.proofs.laws.Demanded.{split-shallow}
+use Rattle.run.proofs.laws.Needs.{split-shallow}
 
 -- ---- the test
 

@@ -1,12 +1,10 @@
 -- What refining all marked leaves does: sound tables stay so, every marked row is split, and everything split lies in every closed set that holds what was split before and the marked elements.
-use mathlib.Core.Path.{_≡_, refl, sym, ap, subst}
+use mathlib.Core.Path.{_≡_, refl, sym, subst}
 use mathlib.Core.List.{List, [], _∷_, List·Memᴰ, List·Memᴰ·head, List·Memᴰ·tail, List·Memᴰ·cases-cons, List·Memᴰ·not-nil}
 use mathlib.Core.Logic.{inl, inr}
 use Prim.Native.Nat.{ℕ, _≤_, _<_}
-use native.Mathlib.Decide.{ℕ-discrete}
 use native.Mathlib.Omega.{arith}
 use lib.ListN.{length}
-use Rattle.split.specs.declared.row.Row.{Row}
 use Rattle.split.specs.declared.point.Point.{Point}
 use Rattle.forest.specs.Element.{Element}
 use Rattle.forest.specs.Closed.{Closed}
@@ -15,15 +13,8 @@ use Rattle.run.specs.Ready.{Ready}
 use Rattle.run.specs.Skeleton.{Skeleton, rowIn, meshed}
 use Rattle.run.specs.Run.{Run, RunAll, done, passed, refined}
 use Rattle.run.proofs.laws.Grows.{Grows, grows-same, grows-on}
-use Rattle.run.proofs.laws.Runs.{Inside, run-records, run-refined}
-
--- a row that may be marked: if it is a leaf, it may be split
-pub record Markable (S : Skeleton) (r : ℕ) : Type 0 where
-  pub there : r < length (S .rows)
-  pub shallow : rowIn (S .rows) r .child ≡ 0 → rowIn (S .rows) r .depth < 60
-
-abbrev pub AllMarkable : Skeleton → List ℕ → Type 0
-AllMarkable S rs = (r : ℕ) → List·Memᴰ r rs → Markable S r
+use Rattle.run.proofs.laws.Needs.{Inside, AllMarkable, markable-later}
+use Rattle.run.proofs.laws.Runs.{run-records, run-refined}
 
 pub record Finished (P : List Point) (i t : ℕ) (S S' : Skeleton) (rs : List ℕ) (Z : Element → Type 0) : Type 0 where
   pub ready : Ready P i t S'
@@ -36,16 +27,6 @@ pub all-records : {S S' : Skeleton} {rs : List ℕ} → RunAll S rs S' → lengt
 all-records (done e) = rw e (omega arith)
 all-records (passed d p) = all-records p
 all-records (refined l p q) = omega (arith, run-records p, all-records q)
-
--- a row that may be marked may be so later
-pub markable-later : (P : List Point) {i t : ℕ} {S T : Skeleton} {r : ℕ} → Grows (meshed P S) (meshed P T) i t → Markable S r → Markable T r
-markable-later P {S = S} {T = T} {r = r} g k = record {
-  there = omega (arith, g .more-rows, k .there);
-  shallow = λ l. elim (ℕ-discrete (rowIn (S .rows) r .child) 0) [
-    | yes e ↦ rw (ap (λ (x : Row). x .depth) (g .row r (k .there))) (k .shallow e)
-    | no d ↦ absurd (d (rw (g .split r (k .there) d) at l))
-  ];
-}
 
 module _ (P : List Point) (i t : ℕ) (Z : Element → Type 0) where
   -- what a run over marks leads to
@@ -70,7 +51,7 @@ module _ (P : List Point) (i t : ℕ) (Z : Element → Type 0) where
         let o = k r (List·Memᴰ·head refl) in
         let u = run-refined P i t Z p y (omega (arith, few, all-records q)) (record { there = o .there; leaf = l; shallow = o .shallow l }) c d (z r (List·Memᴰ·head refl)) in
         let rise : (x : ℕ) → List·Memᴰ x rs → x < length (S .rows) = λ x j. k x (List·Memᴰ·tail j) .there in
-        let w = f .from (u .ready) few (λ x j. markable-later P (u .grows) (k x (List·Memᴰ·tail j))) (rw (u .grows .forest) c) (u .inside) (λ x j. rw (u .grows .element x (rise x j)) (z x (List·Memᴰ·tail j))) in
+        let w = f .from (u .ready) few (λ x j. markable-later (u .grows) (k x (List·Memᴰ·tail j))) (rw (u .grows .forest) c) (u .inside) (λ x j. rw (u .grows .element x (rise x j)) (z x (List·Memᴰ·tail j))) in
         let same = w .grows .split r (omega (arith, u .grows .more-rows, o .there)) (u .split) in
         record { ready = w .ready; grows = grows-on (u .grows) (w .grows); inside = w .inside; split = λ x j. elim (List·Memᴰ·cases-cons j) [ inl e ↦ rw (e, same) (u .split) | inr h ↦ w .split x h ] };
   }

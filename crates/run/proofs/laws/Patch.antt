@@ -5,7 +5,6 @@ use mathlib.Core.Logic.{_⊎_, inl, inr}
 use Prim.Native.Nat.{ℕ, _+_, _≤_, _<_}
 use native.Mathlib.Omega.{arith}
 use lib.ListN.{length, getD, length-append, List·getD-append}
-use lib.Seq.{take-append-le}
 use Rattle.split.specs.declared.row.Row.{Row}
 use Rattle.split.specs.declared.row.Ends.{Ends}
 use Rattle.split.specs.declared.point.Point.{Point}
@@ -15,7 +14,7 @@ use Rattle.split.proofs.laws.Places.{le-or-lt}
 use Rattle.split.proofs.laws.Tags.{tag-range}
 use Rattle.split.proofs.laws.Children.{not-both, from-parent}
 use Rattle.split.proofs.laws.Rows.{vertices-step}
-use Rattle.tables.specs.Layout.{noPoint, noRecord}
+use Rattle.tables.specs.Layout.{noRecord}
 use Rattle.tables.specs.Mesh.{Mesh}
 use Rattle.intake.specs.declared.answer.Found.the-variants.{Nowhere}
 use Rattle.sound.specs.Sound.{vertices, rows, recordOf, rowOf, Records, Grown, Conforming}
@@ -24,47 +23,15 @@ use Rattle.sound.proofs.laws.Placed.{placed, row-distinct}
 use Rattle.run.specs.Skeleton.{Skeleton, rowIn, meshed}
 use Rattle.run.specs.Ready.{Ready}
 use Rattle.run.specs.Run.{holders, blocking, cut, cutAll, recordFor, splitPatch}
-use Rattle.run.proofs.laws.Cuts.{Cuts, edge-spread, cut-grown}
-use Rattle.run.proofs.laws.Listed.{append-first, cut-length, cut-old, cut-own, cut-first, cut-second, cut-kept}
-use Rattle.run.proofs.laws.Points.{halfway, points-length, points-next}
-use Rattle.run.proofs.laws.Holders.{holders-only, holders-has, Once, nil, one, holders-once, clear-edges}
+use Rattle.run.proofs.laws.Cuts.{Cuts, cut-grown}
+use Rattle.run.proofs.laws.Listed.{append-first}
+use Rattle.run.proofs.laws.Points.{points-next}
+use Rattle.run.proofs.laws.Single.{Ripe, with, cuts-again, growing, wider as wide, cuts-new}
+use Rattle.run.proofs.laws.Holders.{holders-only, holders-has, Once, one, holders-once, clear-edges}
 use Rattle.run.proofs.laws.Edge.{Both, both-ends, own-both, edge-shallow}
 use Rattle.run.proofs.laws.Patched.{Remains, Born, Patched, patched-none, patched-cut}
 
--- a leaf that may be split
-pub record Ripe (m : Mesh) (e : Ends) (s : ℕ) : Type 0 where
-  pub there : s < rows m
-  pub leaf : rowOf m s .child ≡ 0
-  pub shallow : rowOf m s .depth < 60
-  pub edge : edgeOf (rowOf m s) ≡ e
-
 -- ---- leaves whose edge has its midpoint already
-
-abbrev with : Mesh → List Row → Mesh
-with m W = record { points = m .points; records = m .records; rows = W }
-
-cuts-again : {m : Mesh} {i t v s : ℕ} {e : Ends} → Grown m i t → vertices m < 4294967295 → Records m i v e → Ripe m e s → Cuts m (with m (cut v (m .rows) s)) i t s v
-cuts-again {m} {i} {t} {v} {s} g few w r = record {
-  there = r .there;
-  leaf = r .leaf;
-  shallow = r .shallow;
-  more = cut-length v (m .rows) s;
-  old = cut-old v (m .rows) s;
-  own = cut-own v (m .rows) s (r .there);
-  first = cut-first v (m .rows) s;
-  second = cut-second v (m .rows) s;
-  few = few;
-  vertices-kept = omega arith;
-  record-old = λ u h. refl;
-  point-old = λ u h. refl;
-  points-kept = refl;
-  records-kept = refl;
-  rows-kept = cut-kept v (m .rows) s t (g .parted .rows-in);
-  middle = rw (r .edge) (record { midpoint = w .midpoint; there = w .there; ends = w .ends });
-  new = λ u h l. absurd (omega arith);
-  only = λ u h. absurd (omega (arith, w .there));
-  point-new = λ h. absurd (omega (arith, w .there));
-}
 
 ripe-after : {m n : Mesh} {i t s v q : ℕ} {e : Ends} → Cuts m n i t s v → (q ≡ s → ⊥) → Ripe m e q → Ripe n e q
 ripe-after {q = q} c d r =
@@ -96,44 +63,16 @@ module _ {P : List Point} {i t : ℕ} {S : Skeleton} (y : Ready P i t S) (few : 
 
   -- one vertex more
   abbrev wider : Ends → List Row → Mesh
-  wider e W = record { points = m .points ++ (halfway (m .points) (recordFor e) ∷ []); records = S .records ++ (recordFor e ∷ []); rows = W }
+  wider e W = wide P S e W
 
-  cuts-new : (e : Ends) (s : ℕ) → Ripe m e s → Cuts m (wider e (cut (length (S .records)) (S .rows) s)) i t s (length (S .records))
-  cuts-new e s r =
-      let g = y .grown in
-      let size = points-length P S (y .based) in
-      let total = length-append (S .records) (recordFor e ∷ []) in
-      let newest = append-first (S .records) (length (S .records)) (recordFor e) noRecord [] refl in
-      let spread = rw (r .edge) at (edge-spread g s (r .there)) in
-      record {
-        there = r .there;
-        leaf = r .leaf;
-        shallow = r .shallow;
-        more = cut-length _ (S .rows) s;
-        old = cut-old _ (S .rows) s;
-        own = cut-own _ (S .rows) s (r .there);
-        first = cut-first _ (S .rows) s;
-        second = cut-second _ (S .rows) s;
-        few = omega (arith, few);
-        vertices-kept = omega (arith, total);
-        record-old = λ u h. List·getD-append (S .records) _ noRecord u h;
-        point-old = λ u h. List·getD-append (m .points) _ noPoint u (omega (arith, size));
-        points-kept = take-append-le i (m .points) _ (omega (arith, size, g .parted .vertices-in));
-        records-kept = take-append-le i (S .records) _ (g .parted .vertices-in);
-        rows-kept = cut-kept _ (S .rows) s t (g .parted .rows-in);
-        middle = record { midpoint = g .parted .vertices-in; there = omega (arith, total); ends = rw newest (sym (r .edge)) };
-        new = λ u h l. omega (arith, total);
-        only = λ u h k l x. leaf-whole (y .conforming) s u (r .there) (r .leaf) (record { midpoint = k; there = l; ends = x });
-        point-new = λ h.
-            append-first (m .points) (length (S .records)) (halfway (m .points) (recordFor e)) noPoint [] size
-            ∙ rw (newest, List·getD-append (m .points) (halfway (m .points) (recordFor e) ∷ []) noPoint (e .small) (omega (arith, size, spread .rising, spread .below)), List·getD-append (m .points) (halfway (m .points) (recordFor e) ∷ []) noPoint (e .large) (omega (arith, size, spread .below)));
-      }
+  cuts-first : (e : Ends) (s : ℕ) → Ripe m e s → Cuts m (wider e (cut (length (S .records)) (S .rows) s)) i t s (length (S .records))
+  cuts-first e s r = cuts-new (growing y) few e s (λ u w. leaf-whole (y .conforming) s u (r .there) (r .leaf) (rw (r .edge) w)) r
 
   cut-all : (e : Ends) (ss : List ℕ) → Once ss → (s : ℕ) → List·Memᴰ s ss → ((q : ℕ) → List·Memᴰ q ss → Ripe m e q) → Patched m (wider e (cutAll (length (S .records)) (S .rows) ss)) i t (length (S .records)) ss
   unfolding cutAll
   cut-all e [] o s k r = absurd (List·Memᴰ·not-nil k)
   cut-all e (q ∷ ss) (one apart rest) s k r =
-      let c = cuts-new e q (r q (List·Memᴰ·head refl)) in
+      let c = cuts-first e q (r q (List·Memᴰ·head refl)) in
       let w = c .middle in
       let z = r q (List·Memᴰ·head refl) .edge in
       patched-cut (y .grown) c

@@ -17,10 +17,9 @@ use Rattle.run.specs.Skeleton.{Skeleton, rowIn, meshed}
 use Rattle.run.specs.Run.{blocking, recordFor, splitPatch, Run, clear, Within, Over, Stuck, full, below, after, StuckAll, here, passed, refined}
 use Rattle.run.specs.Demand.{Needed, Outgrows}
 use Rattle.run.proofs.laws.Grows.{Grows, grows-on}
-use Rattle.run.proofs.laws.Runs.{Inside, run-refined, block-open, block-forced, still-open}
-use Rattle.run.proofs.laws.Marks.{Markable, AllMarkable, markable-later}
-use Rattle.run.proofs.laws.Demanded.{needed-split, needed-mark}
-use Rattle.run.proofs.laws.Room.{over-outgrows}
+use Rattle.run.proofs.laws.Runs.{run-refined, block-open, block-forced, still-open}
+use Rattle.run.proofs.laws.Needs.{Inside, needed-split, needed-mark, Markable, AllMarkable, markable-later}
+use Rattle.run.proofs.laws.Sizes.{split-outgrows}
 
 patch-length : (S : Skeleton) (r : ℕ) → length (splitPatch S r .records) ≡ length (S .records) + 1
 unfolding splitPatch
@@ -87,7 +86,7 @@ module _ (P : List Point) (i t : ℕ) (Z : Element → Type 0) (room : Counts) (
   refined-leads {S} {T} {r} {rs} l p v g = record {
     from = λ y f k c d z.
         let u = run-refined P i t Z p y (omega (arith, v .vertices, small)) (opened l (k r (List·Memᴰ·head refl))) c d (z r (List·Memᴰ·head refl)) in
-        later (u .grows) (g .from (u .ready) v (λ q j. markable-later P (u .grows) (k q (List·Memᴰ·tail j))) (rw (u .grows .forest) c) (u .inside) (λ q j. rw (u .grows .element q (k q (List·Memᴰ·tail j) .there)) (z q (List·Memᴰ·tail j))));
+        later (u .grows) (g .from (u .ready) v (λ q j. markable-later (u .grows) (k q (List·Memᴰ·tail j))) (rw (u .grows .forest) c) (u .inside) (λ q j. rw (u .grows .element q (k q (List·Memᴰ·tail j) .there)) (z q (List·Memᴰ·tail j))));
   }
 
   leads-all : {S : Skeleton} {rs : List ℕ} → StuckAll room S rs → LeadsAll S rs
@@ -99,6 +98,7 @@ module _ (P : List Point) (i t : ℕ) (Z : Element → Type 0) (room : Counts) (
   stuck-all-over p = leads-all p .from
 
 pub no-room : (P : List Point) (i t : ℕ) {S : Skeleton} {rs : List ℕ} {room : Counts} → StuckAll room S rs → Ready P i t S → Within room S → room .vertices ≤ 20000 → AllMarkable S rs → Outgrows room (meshed P S) i t rs
+unfolding Outgrows
 no-room P i t {S} {rs} {room} p y f small k =
     let w = stuck-all-over P i t (Needed (meshed P S) t rs) room small p y f k forced-closed (needed-split (meshed P S) t rs) (needed-mark (meshed P S) t rs) in
-    over-outgrows P i t (w .ready) (w .grows) (w .inside) (w .over)
+    split-outgrows (w .ready .grown) (w .grows .forest) (w .inside) (w .over)

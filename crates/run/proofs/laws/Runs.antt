@@ -12,23 +12,18 @@ use Rattle.split.specs.Row.{edgeOf}
 use Rattle.tables.specs.Mesh.{Mesh}
 use Rattle.forest.specs.Element.{Element}
 use Rattle.forest.specs.Closed.{Closed}
-use Rattle.forest.proofs.Forced.{present-in}
 use Rattle.intake.specs.declared.answer.Found.the-variants.{At, Nowhere}
 use Rattle.sound.specs.Sound.{rows}
-use Rattle.sound.specs.Forest.{forestOf, elementOf, SplitOf}
-use Rattle.sound.proofs.laws.Splits.{row-present}
+use Rattle.sound.specs.Forest.{forestOf, elementOf}
 use Rattle.run.specs.Skeleton.{Skeleton, rowIn, meshed}
 use Rattle.run.specs.Ready.{Ready, Open, edgeRank}
 use Rattle.run.specs.Run.{holders, blocking, recordFor, splitPatch, Run, clear, blocked}
 use Rattle.run.proofs.laws.Holders.{holders-only, holders-has, other-listed}
-use Rattle.run.proofs.laws.Edge.{Both, own-both, holds-edge, edge-shallow, edge-falls, edge-most}
+use Rattle.run.proofs.laws.Edge.{Both, own-both, edge-shallow, edge-falls, edge-most}
 use Rattle.run.proofs.laws.Grows.{Grows, grows-on}
+use Rattle.run.proofs.laws.Needs.{Inside, held-forced}
 use Rattle.run.proofs.laws.Patched.{Split, Patched}
 use Rattle.run.proofs.laws.Patch.{patch-patched, patch-ready}
-
--- the split elements all lie in Z
-abbrev pub Inside : Mesh → ℕ → (Element → Type 0) → Type 0
-Inside m t Z = (e : Element) → SplitOf m t e → Z e
 
 pub record Refined (P : List Point) (i t : ℕ) (S S' : Skeleton) (r : ℕ) (Z : Element → Type 0) : Type 0 where
   pub ready : Ready P i t S'
@@ -68,15 +63,9 @@ module _ {P : List Point} {i t : ℕ} {S : Skeleton} (y : Ready P i t S) (r b : 
   block-falls = edge-falls (y .grown) b r (block-open .there) (o .there) (block-both (S .rows) r b k) (block-listed (S .rows) r b k .1)
 
 module _ {P : List Point} {i t : ℕ} (Z : Element → Type 0) where
-  -- a leaf that holds both ends of a forced leaf's edge is forced
-  held-forced : {S : Skeleton} → Ready P i t S → Closed (forestOf (meshed P S) t) Z → Inside (meshed P S) t Z → (q r : ℕ) → q < length (S .rows) → r < length (S .rows) → Both (rowIn (S .rows) q) (edgeOf (rowIn (S .rows) r))
-      → Z (elementOf (meshed P S) t r) → Z (elementOf (meshed P S) t q)
-  held-forced {S} y c d q r hq hr both z =
-      c .edges (elementOf (meshed P S) t q) (elementOf (meshed P S) t r) (present-in (forestOf (meshed P S) t) (SplitOf (meshed P S) t) Z d (elementOf (meshed P S) t q) (row-present (y .grown) q hq)) z (holds-edge (y .grown) q r hq hr both)
-
-  -- so the leaf that blocks is forced
+  -- the leaf that blocks is forced
   pub block-forced : {S : Skeleton} → Ready P i t S → Closed (forestOf (meshed P S) t) Z → Inside (meshed P S) t Z → (r b : ℕ) → Open S r → blocking (S .rows) r ≡ At b → Z (elementOf (meshed P S) t r) → Z (elementOf (meshed P S) t b)
-  block-forced {S} y c d r b o k z = held-forced y c d b r (block-open y r b o k .there) (o .there) (block-both (S .rows) r b k) z
+  block-forced {S} y c d r b o k z = held-forced Z (y .grown) c d b r (block-open y r b o k .there) (o .there) (block-both (S .rows) r b k) z
 
   -- the leaf waits while the one that blocks it is refined
   pub still-open : {S T : Skeleton} → Ready P i t S → (r b : ℕ) → Open S r → blocking (S .rows) r ≡ At b → Refined P i t S T b Z → Open T r
@@ -104,7 +93,7 @@ module _ {P : List Point} {i t : ℕ} (Z : Element → Type 0) where
     falls = λ q h n. elim (p .splits q h n) [ inl s ↦ inl s | inr j ↦ inr (late q j) ];
     inside = λ e s. elim (p .splits (s .row) (s .there) (s .split)) [
       | inl w ↦ d e (record { row = s .row; there = w .there; split = w .split; is = sym (p .grows .element (s .row) (w .there)) ∙ s .is })
-      | inr j ↦ let (h, both) = both-of (S .rows) r (s .row) j in subst Z (sym (p .grows .element (s .row) h) ∙ s .is) (held-forced y c d (s .row) r h (o .there) both z)
+      | inr j ↦ let (h, both) = both-of (S .rows) r (s .row) j in subst Z (sym (p .grows .element (s .row) h) ∙ s .is) (held-forced Z (y .grown) c d (s .row) r h (o .there) both z)
     ];
   }
     where

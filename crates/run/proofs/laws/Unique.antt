@@ -2,17 +2,10 @@
 use mathlib.Core.Path.{_≡_, sym, subst, _∙_}
 use mathlib.Core.List.{List, [], _∷_}
 use Prim.Native.Nat.{ℕ}
-use native.Mathlib.Omega.{arith}
-use Rattle.intake.specs.declared.answer.Found.{Found}
 use Rattle.intake.specs.declared.answer.Found.the-variants.{At, Nowhere}
+use Rattle.intake.proofs.laws.First.{found-never, found-one}
 use Rattle.run.specs.Skeleton.{Skeleton, rowIn}
 use Rattle.run.specs.Run.{blocking, splitPatch, Run, clear, blocked, RunAll, done, passed, refined}
-
-one-answer : {f : Found} {a b : ℕ} → f ≡ At a → f ≡ At b → a ≡ b
-one-answer p q = cc
-
-either-answer : {X : Type 0} {f : Found} {a : ℕ} → f ≡ At a → f ≡ Nowhere → X
-either-answer p q = let z : _≡_ {A = ℕ} 0 1 = cc in absurd (omega arith)
 
 -- every run from S on r leads to A
 record Alone (S : Skeleton) (r : ℕ) (A : Skeleton) : Type 0 where
@@ -23,14 +16,14 @@ clear-alone {S} {A} {r} k e = record { only = λ B. go }
   where
     go : {B : Skeleton} → Run S r B → A ≡ B
     go (clear k' e') = e ∙ sym e'
-    go (blocked k' p q) = either-answer k' k
+    go (blocked k' p q) = found-never k' k
 
 blocked-alone : {S T A : Skeleton} {r b : ℕ} → blocking (S .rows) r ≡ At b → Alone S b T → Alone T r A → Alone S r A
 blocked-alone {S} {T} {A} {r} {b} k f g = record { only = λ B. go }
   where
     go : {B : Skeleton} → Run S r B → A ≡ B
-    go (clear k' e') = either-answer k k'
-    go {B} (blocked {T = T'} k' p q) = g .only B (subst (λ (x : Skeleton). Run x r B) (sym (f .only T' (subst (λ (x : ℕ). Run S x T') (sym (one-answer k k')) p))) q)
+    go (clear k' e') = found-never k k'
+    go {B} (blocked {T = T'} k' p q) = g .only B (subst (λ (x : Skeleton). Run x r B) (sym (f .only T' (subst (λ (x : ℕ). Run S x T') (sym (found-one k k')) p))) q)
 
 alone : {S A : Skeleton} {r : ℕ} → Run S r A → Alone S r A
 alone (clear k e) = clear-alone k e

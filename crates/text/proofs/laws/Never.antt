@@ -22,8 +22,7 @@ use Rattle.sound.specs.Sound.{Sound}
 use Rattle.sound.proofs.laws.Afresh.{root-depth}
 use Rattle.run.specs.Demand.{Deep}
 use Rattle.run.specs.Skeleton.{skeleton}
-use Rattle.run.proofs.laws.Marks.{AllMarkable}
-use Rattle.run.proofs.laws.Demanded.{not-deep}
+use Rattle.run.proofs.laws.Needs.{AllMarkable, not-deep}
 use Rattle.closure.specs.declared.answer.Refined.{Refined}
 use Rattle.closure.specs.declared.answer.Refined.the-variants as refined
 use Rattle.closure.specs.Refine as closure
@@ -181,7 +180,7 @@ module _ {t : Lent} {c : Counts} (u : Unsplit t c) (marks : List ℕ) where
 
   -- marked rows are roots, of depth 0, so nothing of depth 60 is needed
   unsplit-shallow : first (absent (c .rows) marks) (length marks) ≡ Nowhere → Deep (meshOf t c) (s .roots) marks → ⊥
-  unsplit-shallow e d = not-deep (meshOf t c .points) (sound-ready s) markable (rw (sound-mesh s) d)
+  unsplit-shallow e d = not-deep (sound-ready s .grown) markable (rw (sound-mesh s) d)
     where
       below : (q : ℕ) → List·Memᴰ q marks → q < c .rows
       below = below-all (c .rows) marks (mark-there s marks e)

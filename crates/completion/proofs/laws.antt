@@ -1,0 +1,14 @@
+pub mod One
+pub mod Ripe
+pub mod Next
+pub mod Pairs
+pub mod Flags
+pub mod Unique
+pub mod Steps
+pub mod Demanded
+pub mod Ends
+pub mod Room
+pub mod Engines
+pub mod Calls
+pub mod Compute
+pub mod Worked
