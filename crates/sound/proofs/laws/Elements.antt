@@ -29,7 +29,7 @@ grown-depth s (el k p) = refl
 pub grown-parent : (s r : Side) (e : Element) (k : ℕ) (p : List Side) → grown s e ≡ el k (r ∷ p) → e ≡ el k p
 grown-parent s r (el j q) k p e = cc
 
-grown-apart : (s r : Side) (e f : Element) → grown s e ≡ grown r f → (s ≡ r) × (e ≡ f)
+pub grown-apart : (s r : Side) (e f : Element) → grown s e ≡ grown r f → (s ≡ r) × (e ≡ f)
 grown-apart s r (el k p) (el j q) e = (cc, cc)
 
 pub grown-never : {X : Type 0} (s : Side) (e : Element) (k : ℕ) → grown s e ≡ el k [] → X

@@ -1,0 +1,10 @@
+pub mod Names
+pub mod Opened
+pub mod Depths
+pub mod Find
+pub mod Rebuilt
+pub mod Room
+pub mod Unique
+pub mod Sound
+pub mod Passes
+pub mod Tables
