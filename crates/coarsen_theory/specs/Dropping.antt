@@ -1,0 +1,59 @@
+-- Which vertices a coarsening drops (02, L5): each vertex of a list in turn, judged on the mesh as those before it left it.
+use mathlib.Core.Path.{_≡_}
+use mathlib.Core.Bool.{Bool, true, false, not, _&&_, cond, _||_}
+use mathlib.Core.List.{List, [], _∷_}
+use Prim.Native.Nat.{ℕ, _+_, _≤_, _<_}
+use lib.Dec.{eqb, leb}
+use Rattle.split.specs.Split.{far, Holds}
+use Rattle.split.specs.Row.{cornersOf, tagOf}
+use Rattle.tables.specs.Mesh.{Mesh}
+use Rattle.intake.specs.Search.{any}
+use Rattle.sound.specs.Sound.{rows, rowOf}
+
+-- the vertex that a split row is split at: it stands in the row's first child at the row's tag
+unfoldable pub splitAt : Mesh → ℕ → ℕ
+splitAt m r = far (tagOf (rowOf m r)) (cornersOf (rowOf m (rowOf m r .child)))
+
+-- row r has no children once the vertices that are gone are dropped
+unfoldable pub leafNow : Mesh → (ℕ → Bool) → ℕ → Bool
+leafNow m gone r = eqb (rowOf m r .child) 0 || gone (splitAt m r)
+
+-- row r is split at v, and one of its children still is split
+unfoldable pub blocks : Mesh → (ℕ → Bool) → ℕ → ℕ → Bool
+blocks m gone v r = not (eqb (rowOf m r .child) 0) && (eqb (splitAt m r) v && not (leafNow m gone (rowOf m r .child) && leafNow m gone (rowOf m r .child + 1)))
+
+-- v is a midpoint that is not gone yet, and every row split at it has two leaf children (02, L5)
+unfoldable pub droppable : Mesh → ℕ → (ℕ → Bool) → ℕ → Bool
+droppable m i gone v = leb i v && (not (gone v) && not (any (blocks m gone v) (rows m)))
+
+-- what is gone after v was tried: v too, if it may be dropped
+unfoldable pub dropOne : Mesh → ℕ → (ℕ → Bool) → ℕ → ℕ → Bool
+dropOne m i gone v u = gone u || (droppable m i gone v && eqb u v)
+
+-- what is gone after a list was tried in turn
+unfoldable pub dropAll : Mesh → ℕ → (ℕ → Bool) → List ℕ → ℕ → Bool
+dropAll m i gone [] = gone
+dropAll m i gone (v ∷ vs) = dropAll m i (dropOne m i gone v) vs
+
+-- how many of the list were passed over (02, L5)
+unfoldable pub passedOver : Mesh → ℕ → (ℕ → Bool) → List ℕ → ℕ
+passedOver m i gone [] = 0
+passedOver m i gone (v ∷ vs) = cond (droppable m i gone v) 0 1 + passedOver m i (dropOne m i gone v) vs
+
+-- nothing is gone at first
+abbrev pub none : ℕ → Bool
+none v = false
+
+-- what the list drops
+abbrev pub goneBy : Mesh → ℕ → List ℕ → ℕ → Bool
+goneBy m i vs = dropAll m i none vs
+
+-- `leafNow`, by cases
+pub data LeafNow (m : Mesh) (gone : ℕ → Bool) (r : ℕ) : Type 0 where
+  childless : rowOf m r .child ≡ 0 → LeafNow m gone r
+  merged : (rowOf m r .child ≡ 0 → ⊥) → gone (splitAt m r) ≡ true → LeafNow m gone r
+
+-- only midpoints are gone, and every row that holds one of them is a leaf now
+pub record Free (m : Mesh) (i : ℕ) (gone : ℕ → Bool) : Type 0 where
+  pub midpoint : (v : ℕ) → gone v ≡ true → i ≤ v
+  pub leaf : (r v : ℕ) → r < rows m → Holds 3 (cornersOf (rowOf m r)) v → gone v ≡ true → LeafNow m gone r

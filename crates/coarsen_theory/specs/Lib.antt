@@ -1,0 +1,4 @@
+pub mod Dropping
+pub mod Thinned
+pub mod Worked
+pub mod Since
