@@ -8,6 +8,7 @@ use Rattle.tables.specs.Mesh.{Lent}
 use Rattle.intake.specs.declared.answer.Verdict.the-variants.{Passed}
 use Rattle.sound.specs.Sound.{Sound}
 use Rattle.sound.specs.Check.{lent}
+use Rattle.run.specs.Run.{RunAll}
 use Rattle.frame.specs.Marks.{onMarks}
 use Rattle.frame.specs.Points.{filled}
 use Rattle.closure.specs.declared.answer.Refined.{Refined}
@@ -26,11 +27,11 @@ pub record Closable (p : List Float) (r w s : List ℕ) (c : Counts) (marks : Li
 
 -- the answer and the tables as `OnRoom` has them, however the tables are shown to be sound
 pub record Closes (t : Lent) (c : Counts) (marks : List ℕ) (o : Refined) (t' : Lent) : Type 0 where
-  pub room : (s : Sound t c) → OnRoom t c (s .initials) (s .roots) marks o t'
+  pub room : (s : Sound t c) → OnRoom RunAll t c (s .initials) (s .roots) marks o t'
 
 pub record Callable (p : List Float) (r w s : List ℕ) (c : Counts) : Type 0 where
   pub sound : Sound (lent p r w) c
   pub fresh : Headless s
 
 pub record Calls (t : Lent) (c : Counts) (marks : List ℕ) (o : Refined) (t' : Lent) : Type 0 where
-  pub judged : (s : Sound t c) → OnMarks t c (s .initials) (s .roots) marks o t'
+  pub judged : (s : Sound t c) → OnMarks RunAll t c (s .initials) (s .roots) marks o t'

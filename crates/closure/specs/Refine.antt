@@ -36,30 +36,38 @@ pub record Refuses (t : Lent) (number place : ℕ) (r : Refined) (t' : Lent) : T
   pub reports : reported r ≡ refusal number place
   pub leaves : t' ≡ t
 
--- accepted: the tables are those of the run over all marks, with the midpoints' points after the rule and zeros to the end; each split added two rows
-pub record Accepts (t : Lent) (c : Counts) (marks : List ℕ) (r : Refined) (t' : Lent) : Type 0 where
+-- what an engine makes of records and rows over marks: `RunAll`, or that of another engine (02, L10)
+abbrev pub Engine : Type 1
+Engine = Skeleton → List ℕ → Skeleton → Type 0
+
+-- accepted: the tables are those that the engine leads to over all marks, with the midpoints' points after the rule and zeros to the end; each split added two rows
+pub record Accepts (E : Engine) (t : Lent) (c : Counts) (marks : List ℕ) (r : Refined) (t' : Lent) : Type 0 where
   pub after : Skeleton
-  pub run : RunAll (skeleton (meshOf t c)) marks after
+  pub run : E (skeleton (meshOf t c)) marks after
   pub answers : r ≡ Done (record { vertices = length (after .records); rows = length (after .rows) }) ((length (after .rows) - c .rows) / 2)
   pub reports : reported r ≡ done (record { vertices = length (after .records); rows = length (after .rows) }) ((length (after .rows) - c .rows) / 2)
   pub leaves : t' ≡ laid (meshed (meshOf t c .points) after) (length (t .points)) (length (t .records)) (length (t .rows))
 
 -- number 2: what is needed outgrows the room
-pub data OnRoom (t : Lent) (c : Counts) (i roots : ℕ) (marks : List ℕ) (r : Refined) (t' : Lent) : Type 0 where
-  outgrown : Outgrows (roomIn t) (meshOf t c) i roots marks → Refuses t 2 0 r t' → OnRoom t c i roots marks r t'
-  fits : (Outgrows (roomIn t) (meshOf t c) i roots marks → ⊥) → Accepts t c marks r t' → OnRoom t c i roots marks r t'
+pub data OnRoom (E : Engine) (t : Lent) (c : Counts) (i roots : ℕ) (marks : List ℕ) (r : Refined) (t' : Lent) : Type 0 where
+  outgrown : Outgrows (roomIn t) (meshOf t c) i roots marks → Refuses t 2 0 r t' → OnRoom E t c i roots marks r t'
+  fits : (Outgrows (roomIn t) (meshOf t c) i roots marks → ⊥) → Accepts E t c marks r t' → OnRoom E t c i roots marks r t'
 
 -- number 11, before 2: what is needed would split an element of depth 60
-pub data OnDepth (t : Lent) (c : Counts) (i roots : ℕ) (marks : List ℕ) (r : Refined) (t' : Lent) : Type 0 where
-  deep : Deep (meshOf t c) roots marks → Refuses t 11 0 r t' → OnDepth t c i roots marks r t'
-  shallow : (Deep (meshOf t c) roots marks → ⊥) → OnRoom t c i roots marks r t' → OnDepth t c i roots marks r t'
+pub data OnDepth (E : Engine) (t : Lent) (c : Counts) (i roots : ℕ) (marks : List ℕ) (r : Refined) (t' : Lent) : Type 0 where
+  deep : Deep (meshOf t c) roots marks → Refuses t 11 0 r t' → OnDepth E t c i roots marks r t'
+  shallow : (Deep (meshOf t c) roots marks → ⊥) → OnRoom E t c i roots marks r t' → OnDepth E t c i roots marks r t'
 
 -- number 10, before 11: a mark that is not below the row count, at its first position
-pub data OnMarks (t : Lent) (c : Counts) (i roots : ℕ) (marks : List ℕ) (r : Refined) (t' : Lent) : Type 0 where
-  missing : (p : ℕ) → first (absent (c .rows) marks) (length marks) ≡ At p → Refuses t 10 p r t' → OnMarks t c i roots marks r t'
-  present : first (absent (c .rows) marks) (length marks) ≡ Nowhere → OnDepth t c i roots marks r t' → OnMarks t c i roots marks r t'
+pub data OnMarks (E : Engine) (t : Lent) (c : Counts) (i roots : ℕ) (marks : List ℕ) (r : Refined) (t' : Lent) : Type 0 where
+  missing : (p : ℕ) → first (absent (c .rows) marks) (length marks) ≡ At p → Refuses t 10 p r t' → OnMarks E t c i roots marks r t'
+  present : first (absent (c .rows) marks) (length marks) ≡ Nowhere → OnDepth E t c i roots marks r t' → OnMarks E t c i roots marks r t'
 
--- The promise of refining the marks in the lent tables t with counts c: the answer r, and the tables t' afterwards. Number 9 comes first.
-pub data Refines (t : Lent) (c : Counts) (marks : List ℕ) (r : Refined) (t' : Lent) : Type 0 where
-  unsound : (Sound t c → ⊥) → Refuses t 9 0 r t' → Refines t c marks r t'
-  sound : (s : Sound t c) → OnMarks t c (s .initials) (s .roots) marks r t' → Refines t c marks r t'
+-- The promise of refining the marks by an engine in the lent tables t with counts c: the answer r, and the tables t' afterwards. Number 9 comes first.
+pub data RefinesBy (E : Engine) (t : Lent) (c : Counts) (marks : List ℕ) (r : Refined) (t' : Lent) : Type 0 where
+  unsound : (Sound t c → ⊥) → Refuses t 9 0 r t' → RefinesBy E t c marks r t'
+  sound : (s : Sound t c) → OnMarks E t c (s .initials) (s .roots) marks r t' → RefinesBy E t c marks r t'
+
+-- Refining by closure in row order (01, "Closure")
+abbrev pub Refines : Lent → Counts → List ℕ → Refined → Lent → Type 0
+Refines t c marks r t' = RefinesBy RunAll t c marks r t'

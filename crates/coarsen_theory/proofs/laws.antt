@@ -14,5 +14,4 @@ pub mod Slid
 pub mod Judged
 pub mod Rules
 pub mod Worked
-pub mod Since
 pub mod Turn

@@ -1,4 +1,3 @@
 pub mod Dropping
 pub mod Thinned
 pub mod Worked
-pub mod Since

@@ -6,7 +6,7 @@ use Rattle.forest.specs.Closed.{Present, ClosedAsDemanded, Closed, Force
 use Rattle.forest.proofs.Forced.{present-in, closed-demanded, demanded-closed, forced-closed, forced-holds, forced-least}
 
 -- a set with the members of a closed set is closed
-closed-along : {F : Forest} {S T : Element → Type 0} → ((e : Element) → S e ↔ T e) → Closed F T → Closed F S
+pub closed-along : {F : Forest} {S T : Element → Type 0} → ((e : Element) → S e ↔ T e) → Closed F T → Closed F S
 closed-along {F} {S} {T} f c = record {
   parents = λ k s p x. f (el k p) .1 (c .parents k s p (f (el k (s ∷ p)) .0 x));
   edges = λ t u p x h. f t .1 (c .edges t u (present-in F S T (λ e. f e .0) t p) (f u .0 x) h);

@@ -10,7 +10,11 @@ pub record Marked (calls : List (List Element)) (e : Element) : Type 0 where
   pub accepted : List·Memᴰ call calls
   pub mark : List·Memᴰ e call
 
--- what is split after the calls, the newest first: an opened mesh has no split, and a call splits what its marks and the splits before it force (demand 3)
-unfoldable pub called : Forest → List (List Element) → Element → Type 0
-called F [] e = ⊥
-called F (m ∷ ms) e = Forced F (Either (called F ms) (λ x. List·Memᴰ x m)) e
+-- what is split in an opened mesh (demand 3)
+abbrev pub Nothing : Element → Type 0
+Nothing e = ⊥
+
+-- what is split after the calls, the newest first, where B was split before them: a call splits what its marks and the splits before it force (demand 3; 02, L5: "the elements still split and all later marks")
+unfoldable pub calledSince : Forest → (Element → Type 0) → List (List Element) → Element → Type 0
+calledSince F B [] e = B e
+calledSince F B (m ∷ ms) e = Forced F (Either (calledSince F B ms) (λ x. List·Memᴰ x m)) e

@@ -16,7 +16,7 @@ use Rattle.sound.specs.Forest.{SplitOf, splitsIn}
 use Rattle.sound.proofs.laws.Count.{rows-count}
 use Rattle.sound.proofs.laws.Laid.{laid-sound}
 use Rattle.run.specs.Skeleton.{Skeleton, skeleton, meshed}
-use Rattle.run.specs.Run.{Within}
+use Rattle.run.specs.Run.{RunAll, Within}
 use Rattle.run.specs.Demand.{Needed}
 use Rattle.run.proofs.laws.Grows.{Grows}
 use Rattle.run.proofs.laws.Needs.{AllMarkable}
@@ -44,7 +44,7 @@ pub record Counted (m m' : Mesh) (c d : Counts) (n : ℕ) : Type 0 where
   pub splits : splitsIn m' ≡ splitsIn m + n
 
 module _ {t : Lent} {c : Counts} (s : Sound t c) {marks : List ℕ} {d : Counts} {n : ℕ} {t' : Lent} (x : Refines t c marks (Done d n) t') where
-  abbrev got : Taken t c (s .initials) (s .roots) marks d n t'
+  abbrev got : Taken RunAll t c (s .initials) (s .roots) marks d n t'
   got = taken s x
 
   abbrev after : Skeleton

@@ -22,7 +22,7 @@ use Rattle.sound.specs.Sound.{Sound}
 use Rattle.sound.specs.Check.{Decides, lent}
 use Rattle.soundness.specs.Check.{Cleared}
 use Rattle.run.specs.Skeleton.{meshed, extended}
-use Rattle.run.specs.Run.{Within}
+use Rattle.run.specs.Run.{RunAll, Within}
 use Rattle.run.proofs.laws.Grows.{Grows}
 use Rattle.run.proofs.laws.Reach.{reach-ready, reach-grows}
 use Rattle.run.proofs.laws.Room.{enough-room}
@@ -205,7 +205,7 @@ module _ {p : List Float} {r w s : List ℕ} {c : Counts} {marks : List ℕ} (x 
       answered : a ≡ Done (record { vertices = length (recordsOf r' (d .vertices)); rows = length (rowsOf w' (d .rows)) }) ((length (rowsOf w' (d .rows)) - c .rows) / 2)
       answered = g .answers ∙ (λ j. Done (record { vertices = sym (length-up-to (recordAt r') (d .vertices)) j; rows = sym (length-up-to (rowAt w') (d .rows)) j }) ((sym (length-up-to (rowAt w') (d .rows)) j - c .rows) / 2))
 
-      accepted : Accepts (lent p r w) c marks a (lent p' r' w')
+      accepted : Accepts RunAll (lent p r w) c marks a (lent p' r' w')
       unfolding meshOf laid
       accepted = record {
         after = seen r' w' d;

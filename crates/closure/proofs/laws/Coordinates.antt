@@ -80,7 +80,7 @@ module _ {t u : Lent} (a : Alike t u) {r r₂ : Refined} {t' u' : Lent} where
     ap (λ (l : Lent). l .rows) (x .leaves) ∙ a .rows ∙ sym (ap (λ (l : Lent). l .rows) (y .leaves)),
   )
 
-  same-acceptance : {c : Counts} {marks : List ℕ} → Accepts t c marks r t' → Accepts u c marks r₂ u' → Same r t' r₂ u'
+  same-acceptance : {c : Counts} {marks : List ℕ} → Accepts RunAll t c marks r t' → Accepts RunAll u c marks r₂ u' → Same r t' r₂ u'
   unfolding laid
   same-acceptance {c} {marks} x y =
       let e : x .after ≡ y .after = run-all-unique (x .run) (subst (λ (X : Skeleton). RunAll X marks (y .after)) (sym (same-skeleton a c)) (y .run)) in (
@@ -91,19 +91,19 @@ module _ {t u : Lent} (a : Alike t u) {r r₂ : Refined} {t' u' : Lent} where
 
   module _ {c : Counts} (s : Sound t c) (s' : Sound u c) {marks : List ℕ} where
     on-room : first (absent (c .rows) marks) (length marks) ≡ Nowhere → (Deep (meshOf t c) (s .roots) marks → ⊥) → (Deep (meshOf u c) (s' .roots) marks → ⊥)
-        → OnRoom t c (s .initials) (s .roots) marks r t' → OnRoom u c (s' .initials) (s' .roots) marks r₂ u' → Same r t' r₂ u'
+        → OnRoom RunAll t c (s .initials) (s .roots) marks r t' → OnRoom RunAll u c (s' .initials) (s' .roots) marks r₂ u' → Same r t' r₂ u'
     on-room e n n' (outgrown o x) (outgrown o' y) = same-refusal refl x y
     on-room e n n' (outgrown o x) (fits f y) = absurd (same-fit a s s' marks e n n' (y .run) f o)
     on-room e n n' (fits f x) (outgrown o y) = absurd (same-fit (alike-back a) s' s marks e n' n (x .run) f o)
     on-room e n n' (fits f x) (fits f' y) = same-acceptance x y
 
-    on-depth : first (absent (c .rows) marks) (length marks) ≡ Nowhere → OnDepth t c (s .initials) (s .roots) marks r t' → OnDepth u c (s' .initials) (s' .roots) marks r₂ u' → Same r t' r₂ u'
+    on-depth : first (absent (c .rows) marks) (length marks) ≡ Nowhere → OnDepth RunAll t c (s .initials) (s .roots) marks r t' → OnDepth RunAll u c (s' .initials) (s' .roots) marks r₂ u' → Same r t' r₂ u'
     on-depth e (deep d x) (deep d' y) = same-refusal refl x y
     on-depth e (deep d x) (shallow n y) = absurd (n (same-depth a s s' marks e d))
     on-depth e (shallow n x) (deep d y) = absurd (n (same-depth (alike-back a) s' s marks e d))
     on-depth e (shallow n x) (shallow n' y) = on-room e n n' x y
 
-    on-marks : OnMarks t c (s .initials) (s .roots) marks r t' → OnMarks u c (s' .initials) (s' .roots) marks r₂ u' → Same r t' r₂ u'
+    on-marks : OnMarks RunAll t c (s .initials) (s .roots) marks r t' → OnMarks RunAll u c (s' .initials) (s' .roots) marks r₂ u' → Same r t' r₂ u'
     on-marks (missing p e x) (missing q f y) = same-refusal (found-one e f) x y
     on-marks (missing p e x) (present f y) = found-never e f
     on-marks (present e x) (missing q f y) = found-never f e

@@ -14,7 +14,7 @@ use Rattle.run.specs.Skeleton.{Skeleton, meshed}
 use Rattle.run.proofs.laws.Unique.{run-all-unique}
 use Rattle.closure.specs.declared.answer.Refined.{Refined}
 use Rattle.closure.specs.declared.answer.Refined.the-variants.{Done, Refused}
-use Rattle.closure.specs.Refine.{reported, Refuses, Accepts, OnRoom, outgrown, fits, OnDepth, deep, shallow, OnMarks, missing, present, Refines, unsound, sound}
+use Rattle.closure.specs.Refine.{reported, Refuses, Engine, Accepts, OnRoom, outgrown, fits, OnDepth, deep, shallow, OnMarks, missing, present, RefinesBy, unsound, sound, Refines}
 
 -- ---- how many vertices are initial and how many rows are roots can be told from the mesh
 
@@ -56,6 +56,10 @@ refuses e l = record { answers = e; reports = ap reported e; leaves = l }
 
 -- ---- two outcomes of one call
 
+-- the engine leads to one result
+pub record Unique (E : Engine) : Type 0 where
+  pub only : {S A B : Skeleton} {marks : List ℕ} → E S marks A → E S marks B → A ≡ B
+
 abbrev Same : Refined → Lent → Refined → Lent → Type 0
 Same r t' r₂ t₂ = (r ≡ r₂) × (t' ≡ t₂)
 
@@ -63,66 +67,69 @@ module _ {t : Lent} {r r₂ : Refined} {t' t₂ : Lent} where
   one-refusal : {n p q : ℕ} → p ≡ q → Refuses t n p r t' → Refuses t n q r₂ t₂ → Same r t' r₂ t₂
   one-refusal {n} e x y = (x .answers ∙ ap (λ (k : ℕ). Refused n k) e ∙ sym (y .answers), x .leaves ∙ sym (y .leaves))
 
-  module _ {c : Counts} {marks : List ℕ} where
-    one-acceptance : Accepts t c marks r t' → Accepts t c marks r₂ t₂ → Same r t' r₂ t₂
+  module _ {E : Engine} (unique : Unique E) {c : Counts} {marks : List ℕ} where
+    one-acceptance : Accepts E t c marks r t' → Accepts E t c marks r₂ t₂ → Same r t' r₂ t₂
     one-acceptance x y =
-        let e = run-all-unique (x .run) (y .run) in (
+        let e = unique .only (x .run) (y .run) in (
           x .answers ∙ ap (λ (A : Skeleton). Done (record { vertices = length (A .records); rows = length (A .rows) }) ((length (A .rows) - c .rows) / 2)) e ∙ sym (y .answers),
           x .leaves ∙ ap (λ (A : Skeleton). laid (meshed (meshOf t c .points) A) (length (t .points)) (length (t .records)) (length (t .rows))) e ∙ sym (y .leaves),
         )
 
-    on-room : {i roots : ℕ} → OnRoom t c i roots marks r t' → OnRoom t c i roots marks r₂ t₂ → Same r t' r₂ t₂
+    on-room : {i roots : ℕ} → OnRoom E t c i roots marks r t' → OnRoom E t c i roots marks r₂ t₂ → Same r t' r₂ t₂
     on-room (outgrown o x) (outgrown o' y) = one-refusal refl x y
     on-room (outgrown o x) (fits n y) = absurd (n o)
     on-room (fits n x) (outgrown o y) = absurd (n o)
     on-room (fits n x) (fits n' y) = one-acceptance x y
 
-    on-depth : {i roots : ℕ} → OnDepth t c i roots marks r t' → OnDepth t c i roots marks r₂ t₂ → Same r t' r₂ t₂
+    on-depth : {i roots : ℕ} → OnDepth E t c i roots marks r t' → OnDepth E t c i roots marks r₂ t₂ → Same r t' r₂ t₂
     on-depth (deep d x) (deep d' y) = one-refusal refl x y
     on-depth (deep d x) (shallow n y) = absurd (n d)
     on-depth (shallow n x) (deep d y) = absurd (n d)
     on-depth (shallow n x) (shallow n' y) = on-room x y
 
-    on-marks : {i roots : ℕ} → OnMarks t c i roots marks r t' → OnMarks t c i roots marks r₂ t₂ → Same r t' r₂ t₂
+    on-marks : {i roots : ℕ} → OnMarks E t c i roots marks r t' → OnMarks E t c i roots marks r₂ t₂ → Same r t' r₂ t₂
     on-marks (missing p e x) (missing q f y) = one-refusal (found-one e f) x y
     on-marks (missing p e x) (present f y) = found-never e f
     on-marks (present e x) (missing q f y) = found-never f e
     on-marks (present e x) (present f y) = on-depth x y
 
 -- whichever way the tables are shown to be sound, the marks are judged the same
-pub judged-by : {t : Lent} {c : Counts} {marks : List ℕ} {r : Refined} {t' : Lent} (s s' : Sound t c) → OnMarks t c (s' .initials) (s' .roots) marks r t' → OnMarks t c (s .initials) (s .roots) marks r t'
+pub judged-by : {E : Engine} {t : Lent} {c : Counts} {marks : List ℕ} {r : Refined} {t' : Lent} (s s' : Sound t c) → OnMarks E t c (s' .initials) (s' .roots) marks r t' → OnMarks E t c (s .initials) (s .roots) marks r t'
 judged-by s s' x = rw (one-initials (s .grown .parted) (s' .grown .parted), one-roots (s .grown .parted) (s' .grown .parted)) x
 
+pub one-outcome-by : {E : Engine} → Unique E → {t : Lent} {c : Counts} {marks : List ℕ} {r r₂ : Refined} {t' t₂ : Lent} → RefinesBy E t c marks r t' → RefinesBy E t c marks r₂ t₂ → (r ≡ r₂) × (t' ≡ t₂)
+one-outcome-by u (unsound n x) (unsound n' y) = one-refusal refl x y
+one-outcome-by u (unsound n x) (sound s y) = absurd (n s)
+one-outcome-by u (sound s x) (unsound n y) = absurd (n s)
+one-outcome-by u (sound s x) (sound s' y) = on-marks u x (judged-by s s' y)
+
 pub one-outcome : {t : Lent} {c : Counts} {marks : List ℕ} {r r₂ : Refined} {t' t₂ : Lent} → Refines t c marks r t' → Refines t c marks r₂ t₂ → (r ≡ r₂) × (t' ≡ t₂)
-one-outcome (unsound n x) (unsound n' y) = one-refusal refl x y
-one-outcome (unsound n x) (sound s y) = absurd (n s)
-one-outcome (sound s x) (unsound n y) = absurd (n s)
-one-outcome (sound s x) (sound s' y) = on-marks x (judged-by s s' y)
+one-outcome x y = one-outcome-by (record { only = run-all-unique }) x y
 
 -- a refused call leaves every lent number as at entry
-refused-marks : {t : Lent} {c : Counts} {i roots : ℕ} {marks : List ℕ} {k p : ℕ} {t' : Lent} → OnMarks t c i roots marks (Refused k p) t' → t' ≡ t
+refused-marks : {E : Engine} {t : Lent} {c : Counts} {i roots : ℕ} {marks : List ℕ} {k p : ℕ} {t' : Lent} → OnMarks E t c i roots marks (Refused k p) t' → t' ≡ t
 refused-marks (missing p e x) = x .leaves
 refused-marks (present e (deep d x)) = x .leaves
 refused-marks (present e (shallow n (outgrown o x))) = x .leaves
 refused-marks (present e (shallow n (fits o x))) = done-never (sym (x .answers))
 
-pub refused-same : {t : Lent} {c : Counts} {marks : List ℕ} {k p : ℕ} {t' : Lent} → Refines t c marks (Refused k p) t' → t' ≡ t
+pub refused-same : {E : Engine} {t : Lent} {c : Counts} {marks : List ℕ} {k p : ℕ} {t' : Lent} → RefinesBy E t c marks (Refused k p) t' → t' ≡ t
 refused-same (unsound n x) = x .leaves
 refused-same (sound s x) = refused-marks x
 
 -- ---- two answers with the same report are equal: no refusal has number 0, so a report tells which case it is of
 
-marks-number : {t : Lent} {c : Counts} {i roots : ℕ} {marks : List ℕ} {k p : ℕ} {t' : Lent} → OnMarks t c i roots marks (Refused k p) t' → 1 ≤ k
+marks-number : {E : Engine} {t : Lent} {c : Counts} {i roots : ℕ} {marks : List ℕ} {k p : ℕ} {t' : Lent} → OnMarks E t c i roots marks (Refused k p) t' → 1 ≤ k
 marks-number (missing p e x) = omega (arith, same-number (x .answers))
 marks-number (present e (deep d x)) = omega (arith, same-number (x .answers))
 marks-number (present e (shallow n (outgrown o x))) = omega (arith, same-number (x .answers))
 marks-number (present e (shallow n (fits o x))) = done-never (sym (x .answers))
 
-refused-number : {t : Lent} {c : Counts} {marks : List ℕ} {k p : ℕ} {t' : Lent} → Refines t c marks (Refused k p) t' → 1 ≤ k
+refused-number : {E : Engine} {t : Lent} {c : Counts} {marks : List ℕ} {k p : ℕ} {t' : Lent} → RefinesBy E t c marks (Refused k p) t' → 1 ≤ k
 refused-number (unsound n x) = omega (arith, same-number (x .answers))
 refused-number (sound s x) = marks-number x
 
-pub report-tells : {t u : Lent} {c d : Counts} {marks others : List ℕ} (r r₂ : Refined) {t' u' : Lent} → Refines t c marks r t' → Refines u d others r₂ u' → reported r ≡ reported r₂ → r ≡ r₂
+pub report-tells : {E D : Engine} {t u : Lent} {c d : Counts} {marks others : List ℕ} (r r₂ : Refined) {t' u' : Lent} → RefinesBy E t c marks r t' → RefinesBy D u d others r₂ u' → reported r ≡ reported r₂ → r ≡ r₂
 report-tells (Done a n) (Done b m) x y e = λ i. Done (record { vertices = e i .vertices; rows = e i .rows }) (e i .splits)
 report-tells (Done a n) (Refused k p) x y e = let z = ap (λ (o : Report). o .number) e in absurd (omega (arith, z, refused-number y))
 report-tells (Refused k p) (Done a n) x y e = let z = ap (λ (o : Report). o .number) e in absurd (omega (arith, z, refused-number x))

@@ -17,7 +17,7 @@ use Rattle.run.specs.Run.{Within}
 use Rattle.run.specs.Demand.{Deep, Outgrows}
 use Rattle.run.proofs.laws.Needs.{AllMarkable}
 use Rattle.closure.specs.declared.answer.Refined.the-variants.{Done}
-use Rattle.closure.specs.Refine.{absent, roomIn, Accepts, outgrown, fits, deep, shallow, OnMarks, missing, present, Refines, unsound, sound}
+use Rattle.closure.specs.Refine.{absent, roomIn, Engine, Accepts, outgrown, fits, deep, shallow, OnMarks, missing, present, RefinesBy, unsound, sound}
 use Rattle.closure.proofs.laws.Entry.{entry-mesh, entry-ready}
 use Rattle.frame.proofs.laws.Marks.{deeps}
 use Rattle.closure.proofs.laws.Judged.{marks-markable, marks-deep}
@@ -25,25 +25,25 @@ use Rattle.closure.proofs.laws.Promise.{done-never, judged-by}
 
 -- ---- an accepted call passed every test
 
-pub record Taken (t : Lent) (c : Counts) (i roots : ℕ) (marks : List ℕ) (d : Counts) (n : ℕ) (t' : Lent) : Type 0 where
+pub record Taken (E : Engine) (t : Lent) (c : Counts) (i roots : ℕ) (marks : List ℕ) (d : Counts) (n : ℕ) (t' : Lent) : Type 0 where
   pub there : first (absent (c .rows) marks) (length marks) ≡ Nowhere
   pub shallow : Deep (meshOf t c) roots marks → ⊥
   pub fits : Outgrows (roomIn t) (meshOf t c) i roots marks → ⊥
-  pub accepts : Accepts t c marks (Done d n) t'
+  pub accepts : Accepts E t c marks (Done d n) t'
 
-module _ {t : Lent} {c : Counts} {marks : List ℕ} {d : Counts} {n : ℕ} {t' : Lent} where
-  by-marks : {i roots : ℕ} → OnMarks t c i roots marks (Done d n) t' → Taken t c i roots marks d n t'
+module _ {E : Engine} {t : Lent} {c : Counts} {marks : List ℕ} {d : Counts} {n : ℕ} {t' : Lent} where
+  by-marks : {i roots : ℕ} → OnMarks E t c i roots marks (Done d n) t' → Taken E t c i roots marks d n t'
   by-marks (missing p e x) = done-never (x .answers)
   by-marks (present e (deep b x)) = done-never (x .answers)
   by-marks (present e (shallow b (outgrown o x))) = done-never (x .answers)
   by-marks (present e (shallow b (fits o x))) = record { there = e; shallow = b; fits = o; accepts = x }
 
-  pub taken : (s : Sound t c) → Refines t c marks (Done d n) t' → Taken t c (s .initials) (s .roots) marks d n t'
+  pub taken : (s : Sound t c) → RefinesBy E t c marks (Done d n) t' → Taken E t c (s .initials) (s .roots) marks d n t'
   taken s (unsound f x) = absurd (f s)
   taken s (sound s' x) = by-marks (judged-by s s' x)
 
   -- an accepted call was on sound tables
-  pub was-sound : Refines t c marks (Done d n) t' → Sound t c
+  pub was-sound : RefinesBy E t c marks (Done d n) t' → Sound t c
   was-sound (unsound f x) = done-never (x .answers)
   was-sound (sound s x) = s
 

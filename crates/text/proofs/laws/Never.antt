@@ -22,6 +22,7 @@ use Rattle.sound.specs.Sound.{Sound}
 use Rattle.sound.proofs.laws.Afresh.{root-depth}
 use Rattle.run.specs.Demand.{Deep}
 use Rattle.run.specs.Skeleton.{skeleton}
+use Rattle.run.specs.Run.{RunAll}
 use Rattle.run.proofs.laws.Needs.{AllMarkable, not-deep}
 use Rattle.closure.specs.declared.answer.Refined.{Refined}
 use Rattle.closure.specs.declared.answer.Refined.the-variants as refined
@@ -192,7 +193,7 @@ module _ {t : Lent} {c : Counts} (u : Unsplit t c) (marks : List ℕ) where
   unsplit-number (closure.unsound f x) = absurd (f s)
   unsplit-number {r} {t'} (closure.sound s' x) = go (judged-by s s' x)
     where
-      go : OnMarks t c (s .initials) (s .roots) marks r t' → Comes (closure.reported r .number)
+      go : OnMarks RunAll t c (s .initials) (s .roots) marks r t' → Comes (closure.reported r .number)
       go (closure.missing p e x) = rw (x .reports) ten
       go (closure.present e (closure.deep d x)) = absurd (unsplit-shallow e d)
       go (closure.present e (closure.shallow n (closure.outgrown o x))) = rw (x .reports) (comes-low (omega arith))
