@@ -3,6 +3,7 @@ pub mod Ripe
 pub mod Next
 pub mod Pairs
 pub mod Flags
+pub mod Marks
 pub mod Unique
 pub mod Steps
 pub mod Demanded

@@ -1,6 +1,6 @@
 -- The second engine (02, L10; 003, section 5): the marked leaves are split in list order; then, while some leaf holds both parents of a midpoint, the lowest such row is split. On records and rows.
 use mathlib.Core.Path.{_≡_}
-use mathlib.Core.Bool.{Bool, not, _&&_}
+use mathlib.Core.Bool.{Bool, true, false, not, _&&_}
 use mathlib.Core.List.{List, [], _∷_, _++_}
 use Prim.Native.Nat.{ℕ}
 use lib.Dec.{eqb}
@@ -56,10 +56,9 @@ splitOne S s = splitAt S s (first (halves (S .records) (edgeOf (rowIn (S .rows) 
 -- ---- the call
 
 -- the marked leaves in list order; a row already split is passed over (02, L10; 01, "Closure")
-pub data SplitAll : Skeleton → List ℕ → Skeleton → Type 0 where
-  done : {S S' : Skeleton} → S' ≡ S → SplitAll S [] S'
-  passed : {S S' : Skeleton} {r : ℕ} {rs : List ℕ} → (rowIn (S .rows) r .child ≡ 0 → ⊥) → SplitAll S rs S' → SplitAll S (r ∷ rs) S'
-  split : {S S' : Skeleton} {r : ℕ} {rs : List ℕ} → rowIn (S .rows) r .child ≡ 0 → SplitAll (splitOne S r) rs S' → SplitAll S (r ∷ rs) S'
+unfoldable pub splitMarks : Skeleton → List ℕ → Skeleton
+splitMarks S [] = S
+splitMarks S (r ∷ rs) = elim (eqb (rowIn (S .rows) r .child) 0) [ true ↦ splitMarks (splitOne S r) rs | false ↦ splitMarks S rs ]
 
 -- while there is such a row the lowest is split, until none is left (02, L10)
 pub data Completes : Skeleton → Skeleton → Type 0 where
@@ -68,9 +67,7 @@ pub data Completes : Skeleton → Skeleton → Type 0 where
 
 -- the marks, then the loop
 pub record Completed (S : Skeleton) (marks : List ℕ) (S' : Skeleton) : Type 0 where
-  pub marked : Skeleton
-  pub split : SplitAll S marks marked
-  pub loop : Completes marked S'
+  pub loop : Completes (splitMarks S marks) S'
 
 -- ---- room
 

@@ -1,18 +1,11 @@
 -- The second engine as a function, where a bound on the steps of its loop is given (02, L10).
-use mathlib.Core.Bool.{true, false}
 use mathlib.Core.List.{List, [], _∷_}
 use mathlib.Core.Option.{Option, none, some}
 use Prim.Native.Nat.{ℕ, zero, suc}
-use lib.Dec.{eqb}
 use Rattle.intake.specs.declared.answer.Found.the-variants.{At, Nowhere}
-use Rattle.run.specs.Skeleton.{Skeleton, rowIn}
+use Rattle.run.specs.Skeleton.{Skeleton}
 use Rattle.run.specs.Compute.{andThen}
-use Rattle.completion.specs.Completion.{lowest, splitOne}
-
--- the marks in list order, a row already split passed over
-unfoldable pub splitMarks : Skeleton → List ℕ → Skeleton
-splitMarks S [] = S
-splitMarks S (r ∷ rs) = elim (eqb (rowIn (S .rows) r .child) 0) [ true ↦ splitMarks (splitOne S r) rs | false ↦ splitMarks S rs ]
+use Rattle.completion.specs.Completion.{lowest, splitOne, splitMarks}
 
 -- the loop; nothing where the steps do not suffice
 unfoldable pub looped : ℕ → Skeleton → Option Skeleton

@@ -1,29 +1,17 @@
 -- What the function with a bound on its steps computes is what the second engine leads to (02, L10).
 use mathlib.Core.Path.{_≡_, refl}
-use mathlib.Core.Bool.{Bool, true, false}
-use mathlib.Core.List.{List, [], _∷_}
+use mathlib.Core.List.{List}
 use mathlib.Core.Option.{some}
 use Prim.Native.Nat.{ℕ, zero, suc}
 use native.Mathlib.Omega.{arith}
-use borrow.Author.Tests.{eqb-true, eqb-false}
-use lib.Dec.{eqb}
 use Rattle.intake.specs.declared.answer.Found.{Found}
 use Rattle.intake.specs.declared.answer.Found.the-variants.{At, Nowhere}
-use Rattle.run.specs.Skeleton.{Skeleton, rowIn}
-use Rattle.completion.specs.Completion.{lowest, splitOne, SplitAll, done, passed, split, Completes, complete, onward, Completed}
-use Rattle.completion.specs.Compute.{splitMarks, looped}
+use Rattle.run.specs.Skeleton.{Skeleton}
+use Rattle.completion.specs.Completion.{lowest, splitOne, splitMarks, Completes, complete, onward, Completed}
+use Rattle.completion.specs.Compute.{looped}
 
 same-result : {A B : Skeleton} → some A ≡ some B → B ≡ A
 same-result e = cc
-
-pub marks-split : (S : Skeleton) (rs : List ℕ) → SplitAll S rs (splitMarks S rs)
-unfolding splitMarks
-marks-split S [] = done refl
-marks-split S (r ∷ rs) = go (eqb (rowIn (S .rows) r .child) 0) refl (marks-split S rs) (marks-split (splitOne S r) rs)
-  where
-    go : (b : Bool) → eqb (rowIn (S .rows) r .child) 0 ≡ b → SplitAll S rs (splitMarks S rs) → SplitAll (splitOne S r) rs (splitMarks (splitOne S r) rs) → SplitAll S (r ∷ rs) (elim b [ true ↦ splitMarks (splitOne S r) rs | false ↦ splitMarks S rs ])
-    go true k p q = split (eqb-true _ _ k) q
-    go false k p q = passed (eqb-false _ _ k) p
 
 pub looped-completes : (n : ℕ) (S S' : Skeleton) → looped n S ≡ some S' → Completes S S'
 unfolding looped
@@ -35,4 +23,4 @@ looped-completes (suc n) S S' e = go (lowest S) refl e (looped-completes n)
     go (At q) k h deeper = onward k (deeper (splitOne S q) S' h)
 
 pub computed-completed : (n : ℕ) (S S' : Skeleton) (rs : List ℕ) → looped n (splitMarks S rs) ≡ some S' → Completed S rs S'
-computed-completed n S S' rs e = record { marked = splitMarks S rs; split = marks-split S rs; loop = looped-completes n (splitMarks S rs) S' e }
+computed-completed n S S' rs e = record { loop = looped-completes n (splitMarks S rs) S' e }

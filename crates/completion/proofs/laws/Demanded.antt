@@ -16,8 +16,8 @@ use Rattle.run.proofs.laws.Grows.{Grows, grows-on}
 use Rattle.run.proofs.laws.Needs.{AllMarkable, needed-split, needed-mark, needed-exactly}
 use Rattle.run.proofs.laws.Sizes.{fewer-rows, fewer-vertices}
 use Rattle.run.proofs.laws.Single.{growing}
-use Rattle.completion.specs.Completion.{Completed}
-use Rattle.completion.proofs.laws.Steps.{Marked, marks-lead, Looped, loop-lead, loop-records}
+use Rattle.completion.specs.Completion.{splitMarks, Completed}
+use Rattle.completion.proofs.laws.Steps.{MarksSplit, marks-lead, Looped, loop-lead, loop-records}
 
 -- what a call that is accepted leads to
 pub record Finished (P : List Point) (i t : ℕ) (S : Skeleton) (rs : List ℕ) (S' : Skeleton) : Type 0 where
@@ -30,10 +30,10 @@ module _ (P : List Point) (i t : ℕ) {S S' : Skeleton} {rs : List ℕ} (p : Com
   abbrev Z : Element → Type 0
   Z = Needed (meshed P S) t rs
 
-  after-marks : Marked P i t (Needed (meshed P S) t rs) S rs (p .marked)
-  after-marks = marks-lead P i t Z (p .split) (growing y) (omega (arith, few, loop-records (p .loop))) k (needed-split (meshed P S) t rs) (needed-mark (meshed P S) t rs)
+  after-marks : MarksSplit P i t (Needed (meshed P S) t rs) S rs (splitMarks S rs)
+  after-marks = marks-lead P i t Z rs (growing y) (omega (arith, few, loop-records (p .loop))) k (needed-split (meshed P S) t rs) (needed-mark (meshed P S) t rs)
 
-  after-loop : Looped P i t (Needed (meshed P S) t rs) (p .marked) S'
+  after-loop : Looped P i t (Needed (meshed P S) t rs) (splitMarks S rs) S'
   after-loop = let w = after-marks .went in loop-lead P i t Z (p .loop) (w .growing) few (rw (w .grows .forest) forced-closed) (w .inside)
 
   -- a marked row stays split

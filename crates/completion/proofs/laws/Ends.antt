@@ -12,9 +12,10 @@ use Rattle.intake.specs.declared.answer.Found.{Found}
 use Rattle.intake.specs.declared.answer.Found.the-variants.{At, Nowhere}
 use Rattle.run.specs.Skeleton.{Skeleton, rowIn}
 use Rattle.run.specs.Run.{Within, Over, vertices as over-vertices, rows as over-rows}
-use Rattle.completion.specs.Completion.{lowest, splitOne, done, passed, split, Completes, complete, onward, Completed, StuckLoop, Stuck}
+use Rattle.completion.specs.Completion.{lowest, splitOne, splitMarks, Completes, complete, onward, Completed, StuckLoop, Stuck}
 use Rattle.completion.specs.Completion.StuckLoop.{full as loop-full, onward as loop-onward}
-use Rattle.completion.specs.Completion.Stuck.{loop, passed as stuck-passed, full, split as stuck-split}
+use Rattle.completion.specs.Completion.Stuck.{loop, passed, full, split}
+use Rattle.completion.proofs.laws.Marks.{marks-leaf, marks-passed}
 use Rattle.completion.proofs.laws.One.{one-rows}
 
 -- a mesh is within the room or over it
@@ -56,16 +57,17 @@ pub data CallEnds (room : Counts) (S : Skeleton) (rs : List ℕ) : Type 0 where
   refuses : Stuck room S rs → CallEnds room S rs
 
 call-done : {room : Counts} {S : Skeleton} → LoopEnds room S → CallEnds room S []
-call-done {S = S} (completes p v) = accepts (record { marked = S; split = done refl; loop = p }) v
+unfolding splitMarks
+call-done (completes p v) = accepts (record { loop = p }) v
 call-done (jams p) = refuses (loop p)
 
 call-passed : {room : Counts} {S : Skeleton} {r : ℕ} {rs : List ℕ} → (rowIn (S .rows) r .child ≡ 0 → ⊥) → CallEnds room S rs → CallEnds room S (r ∷ rs)
-call-passed n (accepts p v) = accepts (record { marked = p .marked; split = passed n (p .split); loop = p .loop }) v
-call-passed n (refuses p) = refuses (stuck-passed n p)
+call-passed n (accepts {S' = T} p v) = accepts {S' = T} (record { loop = rw marks-passed (p .loop) }) v
+call-passed n (refuses p) = refuses (passed n p)
 
 call-split : {room : Counts} {S : Skeleton} {r : ℕ} {rs : List ℕ} → rowIn (S .rows) r .child ≡ 0 → Within room (splitOne S r) → CallEnds room (splitOne S r) rs → CallEnds room S (r ∷ rs)
-call-split l w (accepts p v) = accepts (record { marked = p .marked; split = split l (p .split); loop = p .loop }) v
-call-split l w (refuses p) = refuses (stuck-split l w p)
+call-split l w (accepts {S' = T} p v) = accepts {S' = T} (record { loop = rw marks-leaf (p .loop) }) v
+call-split l w (refuses p) = refuses (split l w p)
 
 -- every call within the room ends, with a result or without room (02, L10: it must end)
 pub call-ends : (room : Counts) (S : Skeleton) (rs : List ℕ) → Within room S → CallEnds room S rs

@@ -4,7 +4,7 @@ use Prim.Native.Nat.{ℕ, _≤_, _<_}
 use native.Mathlib.Omega.{arith}
 use Rattle.split.specs.declared.row.Row.{Row}
 use Rattle.split.specs.Split.{at, Holds}
-use Rattle.split.specs.Row.{cornersOf, ends}
+use Rattle.split.specs.Row.{cornersOf, pair, ends}
 use Rattle.split.proofs.laws.Places.{Against, less, equal, more, against}
 use Rattle.split.proofs.laws.Ends.{ends-rising, ends-falling}
 use Rattle.tables.specs.Mesh.{Mesh}
@@ -28,37 +28,20 @@ module _ {m : Mesh} {i t : ℕ} (g : Grown m i t) (q : ℕ) where
       rising : recordOf m (w .vertex) .first < recordOf m (w .vertex) .second
       rising = g .midpoint (w .vertex) (w .midpoint) (w .below) .rising
 
+      recorded : (a b : ℕ) → a < b → b ≤ 3 → pair (recordOf m (w .vertex) .first) (recordOf m (w .vertex) .second) ≡ ends (at (cornersOf (rowOf m q)) a) (at (cornersOf (rowOf m q)) b) → Recorded m i (rowOf m q)
+      recorded a b l h e = record { low = a; high = b; apart = l; inside = h; vertex = w .vertex; records = record { midpoint = w .midpoint; there = w .below; ends = e } }
+
       go : Against (w .first .place) (w .second .place) → Recorded m i (rowOf m q)
-      go (less l) = record {
-        low = w .first .place;
-        high = w .second .place;
-        apart = l;
-        inside = w .second .inside;
-        vertex = w .vertex;
-        records = record { midpoint = w .midpoint; there = w .below; ends = rw (w .first .is, w .second .is) (sym (ends-rising (omega (arith, rising)))) };
-      }
-      go (more l) = record {
-        low = w .second .place;
-        high = w .first .place;
-        apart = l;
-        inside = w .first .inside;
-        vertex = w .vertex;
-        records = record { midpoint = w .midpoint; there = w .below; ends = rw (w .first .is, w .second .is) (sym (ends-falling (omega (arith, rising)))) };
-      }
+      go (less l) = recorded _ _ l (w .second .inside) (rw (w .first .is, w .second .is) (sym (ends-rising (omega (arith, rising)))))
+      go (more l) = recorded _ _ l (w .first .inside) (rw (w .first .is, w .second .is) (sym (ends-falling (omega (arith, rising)))))
       go (equal e) = absurd (omega (arith, rising, w .first .is, w .second .is, ap (at (cornersOf (rowOf m q))) e))
 
   pub recorded-hanging : q < rows m → rowOf m q .child ≡ 0 → Recorded m i (rowOf m q) → Hanging m i q
-  recorded-hanging h l w = elim (sorted-ends a b _ _ (w .records .ends)) [
+  recorded-hanging h l w = elim (sorted-ends _ _ _ _ (w .records .ends)) [
     | kept x y ↦ record { there = h; leaf = l; vertex = w .vertex; midpoint = w .records .midpoint; below = w .records .there; first = rw x here; second = rw y there }
     | swapped x y ↦ record { there = h; leaf = l; vertex = w .vertex; midpoint = w .records .midpoint; below = w .records .there; first = rw x there; second = rw y here }
   ]
     where
-      a : ℕ
-      a = at (cornersOf (rowOf m q)) (w .low)
-
-      b : ℕ
-      b = at (cornersOf (rowOf m q)) (w .high)
-
       here : Holds 3 (cornersOf (rowOf m q)) (at (cornersOf (rowOf m q)) (w .low))
       here = record { place = w .low; inside = omega (arith, w .apart, w .inside); is = refl }
 

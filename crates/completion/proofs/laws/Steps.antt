@@ -1,6 +1,6 @@
 -- What the second engine keeps true (02, L10): clauses 2 to 6 hold, the mesh grows from that at entry, and only elements of a closed set that holds the marks are split. At the end the mesh is sound.
 use mathlib.Core.Path.{_≡_, refl, sym, subst, _∙_}
-use mathlib.Core.List.{List, [], _∷_, List·Memᴰ, List·Memᴰ·head, List·Memᴰ·tail, List·Memᴰ·cases-cons, List·Memᴰ·not-nil}
+use mathlib.Core.List.{List, _∷_, List·Memᴰ, List·Memᴰ·head, List·Memᴰ·tail, List·Memᴰ·cases-cons, List·Memᴰ·not-nil}
 use mathlib.Core.Logic.{inl, inr}
 use Prim.Native.Nat.{ℕ, _+_, _*_, _≤_, _<_}
 use native.Mathlib.Omega.{arith}
@@ -8,22 +8,21 @@ use lib.ListN.{length}
 use Rattle.split.specs.declared.point.Point.{Point}
 use Rattle.forest.specs.Element.{Element}
 use Rattle.forest.specs.Closed.{Closed}
-use Rattle.intake.specs.declared.answer.Found.the-variants.{At, Nowhere}
+use Rattle.intake.specs.declared.answer.Found.the-variants.{At}
 use Rattle.sound.specs.Forest.{forestOf, elementOf}
 use Rattle.run.specs.Skeleton.{Skeleton, rowIn, meshed}
 use Rattle.run.specs.Ready.{Ready, Growing, Open}
 use Rattle.run.proofs.laws.Grows.{Grows, grows-same, grows-on}
-use Rattle.run.proofs.laws.Needs.{Inside, AllMarkable, markable-later}
-use Rattle.completion.specs.Completion.{lowest, splitOne, SplitAll, done, passed, split, Completes, complete, onward, Completed}
+use Rattle.run.proofs.laws.Needs.{Inside, Markable, AllMarkable, markable-later}
+use Rattle.completion.specs.Completion.{lowest, splitOne, splitMarks, Completes, complete, onward, Completed}
+use Rattle.completion.proofs.laws.Marks.{marks-through}
 use Rattle.completion.proofs.laws.One.{one-rows, one-records, one-divided}
 use Rattle.completion.proofs.laws.Ripe.{lowest-hanging, hanging-forced, hanging-open, none-conforming}
 
 -- ---- only records are appended
 
-pub marks-records : {S S' : Skeleton} {rs : List ℕ} → SplitAll S rs S' → length (S .records) ≤ length (S' .records)
-marks-records (done e) = rw e (omega arith)
-marks-records (passed n p) = marks-records p
-marks-records (split {S = S} {r = r} l p) = omega (arith, one-records S r .least, marks-records p)
+pub marks-records : (S : Skeleton) (rs : List ℕ) → length (S .records) ≤ length (splitMarks S rs .records)
+marks-records = marks-through (λ S rs T. length (S .records) ≤ length (T .records)) (λ S. omega arith) (λ S r rs l h. omega (arith, one-records S r .least)) (λ S r rs n h. h)
 
 pub loop-records : {S S' : Skeleton} → Completes S S' → length (S .records) ≤ length (S' .records)
 loop-records (complete k e) = rw e (omega arith)
@@ -36,17 +35,15 @@ pub record Paired (S T : Skeleton) : Type 0 where
   pub splits : ℕ
   pub rows : length (T .rows) ≡ length (S .rows) + 2 * splits
 
-pub marks-rows : {S S' : Skeleton} {rs : List ℕ} → SplitAll S rs S' → Paired S S'
-marks-rows (done e) = record { splits = 0; rows = rw e (omega arith) }
-marks-rows (passed n p) = let w = marks-rows p in record { splits = w .splits; rows = w .rows }
-marks-rows (split {S = S} {r = r} l p) = let w = marks-rows p in record { splits = w .splits + 1; rows = omega (arith, w .rows, one-rows S r) }
+pub marks-rows : (S : Skeleton) (rs : List ℕ) → Paired S (splitMarks S rs)
+marks-rows = marks-through (λ S rs T. Paired S T) (λ S. record { splits = 0; rows = omega arith }) (λ S r rs l w. record { splits = w .splits + 1; rows = omega (arith, one-rows S r) }) (λ S r rs n w. w)
 
 pub loop-rows : {S S' : Skeleton} → Completes S S' → Paired S S'
 loop-rows (complete k e) = record { splits = 0; rows = rw e (omega arith) }
 loop-rows (onward {S = S} {q = q} k p) = let w = loop-rows p in record { splits = w .splits + 1; rows = omega (arith, w .rows, one-rows S q) }
 
 pub completed-rows : {S S' : Skeleton} {rs : List ℕ} → Completed S rs S' → Paired S S'
-completed-rows p = let a = marks-rows (p .split) in let b = loop-rows (p .loop) in record { splits = a .splits + b .splits; rows = omega (arith, a .rows, b .rows) }
+completed-rows {S} {rs = rs} p = let a = marks-rows S rs in let b = loop-rows (p .loop) in record { splits = a .splits + b .splits; rows = omega (arith, a .rows, b .rows) }
 
 -- ---- one split
 
@@ -55,6 +52,10 @@ pub record Went (P : List Point) (i t : ℕ) (Z : Element → Type 0) (S T : Ske
   pub growing : Growing P i t T
   pub grows : Grows (meshed P S) (meshed P T) i t
   pub inside : Inside (meshed P T) t Z
+
+-- a marked leaf can be split
+pub mark-open : {S : Skeleton} {r : ℕ} → rowIn (S .rows) r .child ≡ 0 → Markable S r → Open S r
+mark-open l k = record { there = k .there; leaf = l; shallow = k .shallow l }
 
 module _ (P : List Point) (i t : ℕ) (Z : Element → Type 0) where
   pub went-none : {S : Skeleton} → Growing P i t S → Inside (meshed P S) t Z → Went P i t Z S S
@@ -85,45 +86,31 @@ module _ (P : List Point) (i t : ℕ) (Z : Element → Type 0) where
   -- ---- the marks
 
   -- what splitting the marks leads to
-  pub record Marked (S : Skeleton) (rs : List ℕ) (S' : Skeleton) : Type 0 where
+  pub record MarksSplit (S : Skeleton) (rs : List ℕ) (S' : Skeleton) : Type 0 where
     pub went : Went P i t Z S S'
     pub split : (r : ℕ) → List·Memᴰ r rs → rowIn (S' .rows) r .child ≡ 0 → ⊥
 
   record Leads (S : Skeleton) (rs : List ℕ) (S' : Skeleton) : Type 0 where
-    from : Growing P i t S → length (S' .records) < 4294967295 → AllMarkable S rs → Inside (meshed P S) t Z → ((r : ℕ) → List·Memᴰ r rs → Z (elementOf (meshed P S) t r)) → Marked S rs S'
+    from : Growing P i t S → length (S' .records) < 4294967295 → AllMarkable S rs → Inside (meshed P S) t Z → ((r : ℕ) → List·Memᴰ r rs → Z (elementOf (meshed P S) t r)) → MarksSplit S rs S'
 
-  done-leads : {S S' : Skeleton} → S' ≡ S → Leads S [] S'
-  done-leads {S} e = record { from = λ y few k d z. subst (Marked S []) (sym e) (record { went = went-none y d; split = λ r j. absurd (List·Memᴰ·not-nil j) }) }
+  -- S leads to T, where r is split, and T by the other marks to S'
+  marked-on : {S T S' : Skeleton} {r : ℕ} {rs : List ℕ} → r < length (S .rows) → Went P i t Z S T → (rowIn (T .rows) r .child ≡ 0 → ⊥) → MarksSplit T rs S' → MarksSplit S (r ∷ rs) S'
+  marked-on {r = r} h u n w = let same = w .went .grows .split r (omega (arith, u .grows .more-rows)) n in record { went = went-on u (w .went); split = λ q j. elim (List·Memᴰ·cases-cons j) [ inl e ↦ rw (e, same) n | inr m ↦ w .split q m ] }
 
-  -- a row passed over stays split
-  passed-leads : {S S' : Skeleton} {r : ℕ} {rs : List ℕ} → (rowIn (S .rows) r .child ≡ 0 → ⊥) → Leads S rs S' → Leads S (r ∷ rs) S'
-  passed-leads {S} {S'} {r} {rs} n f = record {
+  split-leads : (S : Skeleton) (r : ℕ) (rs : List ℕ) → rowIn (S .rows) r .child ≡ 0 → Leads (splitOne S r) rs (splitMarks (splitOne S r) rs) → Leads S (r ∷ rs) (splitMarks (splitOne S r) rs)
+  split-leads S r rs l f = record {
     from = λ y few k d z.
-        let w = f .from y few (λ q j. k q (List·Memᴰ·tail j)) d (λ q j. z q (List·Memᴰ·tail j)) in
-        let same = w .went .grows .split r (k r (List·Memᴰ·head refl) .there) n in
-        record { went = w .went; split = λ q j. elim (List·Memᴰ·cases-cons j) [ inl e ↦ rw (e, same) n | inr h ↦ w .split q h ] };
-  }
-
-  split-leads : {S S' : Skeleton} {r : ℕ} {rs : List ℕ} → rowIn (S .rows) r .child ≡ 0 → SplitAll (splitOne S r) rs S' → Leads (splitOne S r) rs S' → Leads S (r ∷ rs) S'
-  split-leads {S} {S'} {r} {rs} l p f = record {
-    from = λ y few k d z.
-        let m = k r (List·Memᴰ·head refl) in
-        let o : Open S r = record { there = m .there; leaf = l; shallow = m .shallow l } in
-        let less : length (splitOne S r .records) < 4294967295 = omega (arith, few, marks-records p) in
+        let o = mark-open l (k r (List·Memᴰ·head refl)) in
+        let less : length (splitOne S r .records) < 4294967295 = omega (arith, marks-records (splitOne S r) rs) in
         let u = went-one r y less d o (z r (List·Memᴰ·head refl)) in
-        let own = one-divided r y less o .own in
-        let w = f .from (u .growing) few (λ x j. markable-later (u .grows) (k x (List·Memᴰ·tail j))) (u .inside) (λ x j. rw (u .grows .element x (k x (List·Memᴰ·tail j) .there)) (z x (List·Memᴰ·tail j))) in
-        let same = w .went .grows .split r (omega (arith, u .grows .more-rows, m .there)) own in
-        record { went = went-on u (w .went); split = λ x j. elim (List·Memᴰ·cases-cons j) [ inl e ↦ rw (e, same) own | inr h ↦ w .split x h ] };
+        marked-on (o .there) u (one-divided r y less o .own) (f .from (u .growing) few (λ x j. markable-later (u .grows) (k x (List·Memᴰ·tail j))) (u .inside) (λ x j. rw (u .grows .element x (k x (List·Memᴰ·tail j) .there)) (z x (List·Memᴰ·tail j))));
   }
 
-  leads : {S S' : Skeleton} {rs : List ℕ} → SplitAll S rs S' → Leads S rs S'
-  leads (done e) = done-leads e
-  leads (passed n p) = passed-leads n (leads p)
-  leads (split l p) = split-leads l p (leads p)
+  passed-leads : (S : Skeleton) (r : ℕ) (rs : List ℕ) → (rowIn (S .rows) r .child ≡ 0 → ⊥) → Leads S rs (splitMarks S rs) → Leads S (r ∷ rs) (splitMarks S rs)
+  passed-leads S r rs n f = record { from = λ y few k d z. marked-on (k r (List·Memᴰ·head refl) .there) (went-none y d) n (f .from y few (λ q j. k q (List·Memᴰ·tail j)) d (λ q j. z q (List·Memᴰ·tail j))) }
 
-  pub marks-lead : {S S' : Skeleton} {rs : List ℕ} → SplitAll S rs S' → Growing P i t S → length (S' .records) < 4294967295 → AllMarkable S rs → Inside (meshed P S) t Z → ((r : ℕ) → List·Memᴰ r rs → Z (elementOf (meshed P S) t r)) → Marked S rs S'
-  marks-lead p = leads p .from
+  pub marks-lead : {S : Skeleton} (rs : List ℕ) → Growing P i t S → length (splitMarks S rs .records) < 4294967295 → AllMarkable S rs → Inside (meshed P S) t Z → ((r : ℕ) → List·Memᴰ r rs → Z (elementOf (meshed P S) t r)) → MarksSplit S rs (splitMarks S rs)
+  marks-lead {S} rs = marks-through Leads (λ T. record { from = λ y few k d z. record { went = went-none y d; split = λ r j. absurd (List·Memᴰ·not-nil j) } }) split-leads passed-leads S rs .from
 
   -- ---- the loop
 
@@ -132,23 +119,9 @@ module _ (P : List Point) (i t : ℕ) (Z : Element → Type 0) where
     pub went : Went P i t Z S S'
     pub ready : Ready P i t S'
 
-  record LoopLeads (S S' : Skeleton) : Type 0 where
-    from : Growing P i t S → length (S' .records) < 4294967295 → Closed (forestOf (meshed P S) t) Z → Inside (meshed P S) t Z → Looped S S'
-
-  complete-leads : {S S' : Skeleton} → lowest S ≡ Nowhere → S' ≡ S → LoopLeads S S'
-  complete-leads {S} k e = record { from = λ y few c d. subst (Looped S) (sym e) (record { went = went-none y d; ready = record { based = y .based; grown = y .grown; conforming = none-conforming (y .grown) k } }) }
-
-  onward-leads : {S S' : Skeleton} {q : ℕ} → lowest S ≡ At q → Completes (splitOne S q) S' → LoopLeads (splitOne S q) S' → LoopLeads S S'
-  onward-leads {S} {S'} {q} k p f = record {
-    from = λ y few c d.
-        let u = went-lowest q y (omega (arith, few, loop-records p)) c d k in
-        let w = f .from (u .growing) few (rw (u .grows .forest) c) (u .inside) in
-        record { went = went-on u (w .went); ready = w .ready };
-  }
-
-  loop-leads : {S S' : Skeleton} → Completes S S' → LoopLeads S S'
-  loop-leads (complete k e) = complete-leads k e
-  loop-leads (onward k p) = onward-leads k p (loop-leads p)
-
   pub loop-lead : {S S' : Skeleton} → Completes S S' → Growing P i t S → length (S' .records) < 4294967295 → Closed (forestOf (meshed P S) t) Z → Inside (meshed P S) t Z → Looped S S'
-  loop-lead p = loop-leads p .from
+  loop-lead {S} (complete k e) y few c d = subst (Looped S) (sym e) (record { went = went-none y d; ready = record { based = y .based; grown = y .grown; conforming = none-conforming (y .grown) k } })
+  loop-lead (onward {q = q} k p) y few c d =
+      let u = went-lowest q y (omega (arith, loop-records p)) c d k in
+      let w = loop-lead p (u .growing) few (rw (u .grows .forest) c) (u .inside) in
+      record { went = went-on u (w .went); ready = w .ready }

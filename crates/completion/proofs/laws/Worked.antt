@@ -13,8 +13,8 @@ use Rattle.opening.specs.Opening.{openedMesh}
 use Rattle.sound.specs.Forest.{elementWithin}
 use Rattle.run.specs.Run.{has, sameEnds, cut}
 use Rattle.run.specs.Worked.{worked, splitsBelow}
-use Rattle.completion.specs.Completion.{parentsIn, ripe, halves, splitOne}
-use Rattle.completion.specs.Compute.{splitMarks, looped, completeCalls}
+use Rattle.completion.specs.Completion.{parentsIn, ripe, halves, splitOne, splitMarks}
+use Rattle.completion.specs.Compute.{looped, completeCalls}
 use Rattle.completion.specs.Worked.{computed, expected, eighth, eighthTable}
 
 -- W1 to W10: the same split elements and counts as by the recursive engine
