@@ -1,5 +1,4 @@
 pub mod Sifted
-pub mod Born
 pub mod Free
 pub mod Together
 pub mod Unheld

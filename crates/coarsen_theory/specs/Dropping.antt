@@ -4,23 +4,20 @@ use mathlib.Core.Bool.{Bool, true, false, not, _&&_, cond, _||_}
 use mathlib.Core.List.{List, [], _∷_}
 use Prim.Native.Nat.{ℕ, _+_, _≤_, _<_}
 use lib.Dec.{eqb, leb}
-use Rattle.split.specs.Split.{far, Holds}
-use Rattle.split.specs.Row.{cornersOf, tagOf}
+use Rattle.split.specs.Split.{Holds}
+use Rattle.split.specs.Row.{cornersOf}
 use Rattle.tables.specs.Mesh.{Mesh}
 use Rattle.intake.specs.Search.{any}
 use Rattle.sound.specs.Sound.{rows, rowOf}
-
--- the vertex that a split row is split at: it stands in the row's first child at the row's tag
-unfoldable pub splitAt : Mesh → ℕ → ℕ
-splitAt m r = far (tagOf (rowOf m r)) (cornersOf (rowOf m (rowOf m r .child)))
+use Rattle.sound.specs.Follows.{splitVertex}
 
 -- row r has no children once the vertices that are gone are dropped
 unfoldable pub leafNow : Mesh → (ℕ → Bool) → ℕ → Bool
-leafNow m gone r = eqb (rowOf m r .child) 0 || gone (splitAt m r)
+leafNow m gone r = eqb (rowOf m r .child) 0 || gone (splitVertex m r)
 
 -- row r is split at v, and one of its children still is split
 unfoldable pub blocks : Mesh → (ℕ → Bool) → ℕ → ℕ → Bool
-blocks m gone v r = not (eqb (rowOf m r .child) 0) && (eqb (splitAt m r) v && not (leafNow m gone (rowOf m r .child) && leafNow m gone (rowOf m r .child + 1)))
+blocks m gone v r = not (eqb (rowOf m r .child) 0) && (eqb (splitVertex m r) v && not (leafNow m gone (rowOf m r .child) && leafNow m gone (rowOf m r .child + 1)))
 
 -- v is a midpoint that is not gone yet, and every row split at it has two leaf children (02, L5)
 unfoldable pub droppable : Mesh → ℕ → (ℕ → Bool) → ℕ → Bool
@@ -51,7 +48,7 @@ goneBy m i vs = dropAll m i none vs
 -- `leafNow`, by cases
 pub data LeafNow (m : Mesh) (gone : ℕ → Bool) (r : ℕ) : Type 0 where
   childless : rowOf m r .child ≡ 0 → LeafNow m gone r
-  merged : (rowOf m r .child ≡ 0 → ⊥) → gone (splitAt m r) ≡ true → LeafNow m gone r
+  merged : (rowOf m r .child ≡ 0 → ⊥) → gone (splitVertex m r) ≡ true → LeafNow m gone r
 
 -- only midpoints are gone, and every row that holds one of them is a leaf now
 pub record Free (m : Mesh) (i : ℕ) (gone : ℕ → Bool) : Type 0 where

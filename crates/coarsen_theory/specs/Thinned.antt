@@ -9,9 +9,10 @@ use Rattle.tables.specs.declared.record.Record.{Record}
 use Rattle.tables.specs.Mesh.{Mesh, upTo}
 use Rattle.intake.specs.Search.{count}
 use Rattle.sound.specs.Sound.{vertices, rows, pointOf, recordOf, rowOf}
+use Rattle.sound.specs.Follows.{splitVertex}
 use Rattle.forest.specs.Element.{Element}
 use Rattle.sound.specs.Forest.{elementOf}
-use Rattle.coarsen_theory.specs.Dropping.{splitAt, leafNow}
+use Rattle.coarsen_theory.specs.Dropping.{leafNow}
 
 -- vertex v is not gone
 unfoldable pub stays : (ℕ → Bool) → ℕ → Bool
@@ -77,5 +78,5 @@ pub record StillSplit (m : Mesh) (t : ℕ) (gone : ℕ → Bool) (e : Element) :
   pub row : ℕ
   pub there : row < rows m
   pub split : rowOf m row .child ≡ 0 → ⊥
-  pub stays : gone (splitAt m row) ≡ false
+  pub stays : gone (splitVertex m row) ≡ false
   pub is : elementOf m t row ≡ e

@@ -3,13 +3,11 @@ use mathlib.Core.List.{List, [], _∷_}
 use mathlib.Core.Option.{Option, none, some}
 use Prim.Native.Nat.{ℕ, _+_, _*_, _/_}
 use lib.ListN.{length, replicate}
-use Rattle.split.specs.declared.row.Row.{Row}
-use Rattle.tables.specs.declared.record.Record.{Record}
 use Rattle.tables.specs.Layout.{noFloat}
 use Rattle.forest.specs.Element.{Element}
 use Rattle.opening.specs.Opening.{openedMesh}
 use Rattle.run.specs.Skeleton.{Skeleton, skeleton}
-use Rattle.run.specs.Worked.{Case, splitsBelow}
+use Rattle.run.specs.Worked.{Case, of, row, splitsBelow}
 use Rattle.completion.specs.Compute.{completeCalls}
 
 -- counts and split elements, in row order
@@ -32,13 +30,6 @@ unfoldable pub expected : Case → Option Summary
 expected c = some (record { vertices = length (c .colours) + length (c .midpoints); rows = length (c .rows); splits = c .splits })
 
 -- W7, mark 0: row 0 is split at once, and then row 1, which holds both parents of vertex 5
-abbrev of : ℕ → ℕ → Record
-of a b = record { first = a; second = b }
-
--- v0 v1 v2 v3, tag, parent, first child, depth
-abbrev row : ℕ → ℕ → ℕ → ℕ → ℕ → ℕ → ℕ → ℕ → Row
-row a b c d g p k n = record { v0 = a; v1 = b; v2 = c; v3 = d; tag = g; parent = p; child = k; depth = n }
-
 unfoldable pub eighth : Option Skeleton
 eighth = completeCalls 4 (opened (0 ∷ 1 ∷ 2 ∷ 3 ∷ 0 ∷ 1 ∷ 3 ∷ 4 ∷ 0 ∷ 1 ∷ 2 ∷ 4 ∷ []) 5) ((0 ∷ []) ∷ [])
 

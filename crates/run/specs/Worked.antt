@@ -32,11 +32,11 @@ pub record Case : Type 0 where
   -- the elements of the split rows, in row order
   pub splits : List Element
 
-abbrev of : ℕ → ℕ → Record
+abbrev pub of : ℕ → ℕ → Record
 of a b = record { first = a; second = b }
 
 -- v0 v1 v2 v3, tag, parent, first child, depth
-abbrev row : ℕ → ℕ → ℕ → ℕ → ℕ → ℕ → ℕ → ℕ → Row
+abbrev pub row : ℕ → ℕ → ℕ → ℕ → ℕ → ℕ → ℕ → ℕ → Row
 row a b c d g p k n = record { v0 = a; v1 = b; v2 = c; v3 = d; tag = g; parent = p; child = k; depth = n }
 
 -- the one element of W1

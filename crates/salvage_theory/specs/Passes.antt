@@ -3,8 +3,8 @@ use mathlib.Core.Path.{_≡_}
 use mathlib.Core.Bool.{Bool, true}
 use Prim.Native.Nat.{ℕ, _+_, _<_}
 use lib.ListN.{length}
-use Rattle.split.specs.Split.{far, Side}
-use Rattle.split.specs.Row.{cornersOf, tagOf, pair, edgeOf, childOf}
+use Rattle.split.specs.Split.{Side}
+use Rattle.split.specs.Row.{pair, edgeOf, childOf}
 use Rattle.tables.specs.Mesh.{Mesh}
 use Rattle.forest.specs.Element.{Element}
 use Rattle.sound.specs.Sound.{vertices, rows, recordOf, rowOf, childless, place}
@@ -20,10 +20,6 @@ pub record FollowsAt (m : Mesh) (r v : ℕ) : Type 0 where
   pub there : v < vertices m
   pub ends : pair (recordOf m v .first) (recordOf m v .second) ≡ edgeOf (rowOf m r)
   pub is : (s : Side) → childless (rowOf m (place s (rowOf m r .child))) ≡ childOf s (rowOf m r) r v
-
--- the vertex at the row's tag in its first child, where the split table puts the midpoint
-unfoldable pub middleIn : Mesh → ℕ → ℕ
-middleIn m r = far (tagOf (rowOf m r)) (cornersOf (rowOf m (rowOf m r .child)))
 
 -- row r is reached, as some element
 pub record ReachedRow (m : Mesh) (t r : ℕ) : Type 0 where

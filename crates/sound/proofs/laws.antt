@@ -12,11 +12,13 @@ pub mod Opened
 pub mod Demanded
 pub mod Deciding
 pub mod Afresh
+pub mod Front
 pub mod Names
 pub mod Elements
 pub mod Placed
 pub mod Leaves
 pub mod Offspring
+pub mod Halves
 pub mod OneParent
 pub mod Splits
 pub mod Count

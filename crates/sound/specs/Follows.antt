@@ -1,8 +1,9 @@
--- What follows from the clauses of sound tables and is said in the document's words: each later row is one child of exactly one earlier row, and no coordinate is over the limit.
+-- What follows from the clauses of sound tables and is said in the document's words: each later row is one child of exactly one earlier row, and no coordinate is over the limit. And where a split row's midpoint is read.
 use mathlib.Core.Path.{_≡_}
 use Prim.Native.Nat.{ℕ, _<_}
 use Rattle.split.specs.declared.point.Point.{Point}
-use Rattle.split.specs.Split.{Side}
+use Rattle.split.specs.Split.{far, Side}
+use Rattle.split.specs.Row.{cornersOf, tagOf}
 use Rattle.split.specs.Magnitude.{Bounded}
 use Rattle.tables.specs.Mesh.{Mesh}
 use Rattle.sound.specs.Sound.{rows, rowOf, place}
@@ -22,3 +23,7 @@ pub record BoundedPoint (p : Point) : Type 0 where
   pub x : Bounded (p .x)
   pub y : Bounded (p .y)
   pub z : Bounded (p .z)
+
+-- the vertex that a split row is split at; the split table puts it into the first child at the row's tag (01, "One split")
+unfoldable pub splitVertex : Mesh → ℕ → ℕ
+splitVertex m r = far (tagOf (rowOf m r)) (cornersOf (rowOf m (rowOf m r .child)))

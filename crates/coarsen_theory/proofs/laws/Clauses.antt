@@ -6,17 +6,18 @@ use native.Mathlib.Omega.{arith}
 use lib.ListN.{length}
 use Rattle.split.specs.declared.row.Row.{Row}
 use Rattle.split.specs.declared.row.Ends.{Ends}
-use Rattle.split.specs.Split.{Side, left, right, at, Holds}
+use Rattle.split.specs.Split.{Side, left, right, Holds}
 use Rattle.split.specs.Row.{cornersOf, edgeOf, pair, childOf}
 use Rattle.split.specs.Midpoint.{between}
 use Rattle.tables.specs.declared.record.Record.{Record}
 use Rattle.tables.specs.Mesh.{Mesh}
 use Rattle.opening.proofs.laws.Counting.{count-below}
 use Rattle.sound.specs.Sound.{vertices, rows, pointOf, recordOf, rowOf, childless, place, Parted, Records, Child, Parent, Midpoint, Grown, Conforming}
-use Rattle.coarsen_theory.specs.Dropping.{splitAt, Free}
+use Rattle.sound.specs.Follows.{splitVertex}
+use Rattle.sound.proofs.laws.Halves.{half, one-middle, parent-there}
+use Rattle.coarsen_theory.specs.Dropping.{Free}
 use Rattle.coarsen_theory.specs.Thinned.{stays, keeps, newVertex, newRow, renamed, newChild, thinRow, moved, thinned}
 use Rattle.coarsen_theory.proofs.laws.Sifted.{count-less, count-apart}
-use Rattle.coarsen_theory.proofs.laws.Born.{half, one-middle, parent-there}
 use Rattle.coarsen_theory.proofs.laws.Together.{stays-says, says-stays, kept-holds, still-split, split-kept, parent-stays, parent-kept, children-kept, midpoint-row, parents-stay}
 use Rattle.coarsen_theory.proofs.laws.Unheld.{unheld}
 use Rattle.coarsen_theory.proofs.laws.Renamed.{renamed-child}
@@ -74,7 +75,7 @@ module _ {m : Mesh} {i t : ℕ} (g : Grown m i t) {gone : ℕ → Bool} (f : Fre
   }
 
   -- the first child of a row split at a vertex that stays
-  pub row-open : (q : ℕ) → q < rows m → (rowOf m q .child ≡ 0 → ⊥) → gone (splitAt m q) ≡ false → rowOf after (newRow m gone q) .child ≡ newRow m gone (rowOf m q .child)
+  pub row-open : (q : ℕ) → q < rows m → (rowOf m q .child ≡ 0 → ⊥) → gone (splitVertex m q) ≡ false → rowOf after (newRow m gone q) .child ≡ newRow m gone (rowOf m q .child)
   row-open q l split stay = row-child m i gone q l (split-kept g f q l split stay) ∙ go (fate m gone q)
     where
       go : Fate m gone q → newChild m gone q ≡ newRow m gone (rowOf m q .child)
@@ -95,7 +96,7 @@ module _ {m : Mesh} {i t : ℕ} (g : Grown m i t) {gone : ℕ → Bool} (f : Fre
     onward = row-open q (parent-there g r k l) (own .split) (parent-stays g f r k l h)
 
     vertex-stays : gone (own .vertex) ≡ false
-    vertex-stays = ap gone (one-middle g (own .vertex) (splitAt m q) (own .middle) (half g q (parent-there g r k l) (own .split) left .records)) ∙ parent-stays g f r k l h
+    vertex-stays = ap gone (one-middle g (own .vertex) (splitVertex m q) (own .middle) (half g q (parent-there g r k l) (own .split) left .records)) ∙ parent-stays g f r k l h
 
     -- it stays on its side
     pub side-same : newRow m gone r ≡ place (g .child r k l .side) (rowOf after (rowOf after (newRow m gone r) .parent) .child)
@@ -123,7 +124,7 @@ module _ {m : Mesh} {i t : ℕ} (g : Grown m i t) {gone : ℕ → Bool} (f : Fre
 
   -- ---- clause 5
 
-  thin-parent-row : (q : ℕ) → q < rows m → (rowOf m q .child ≡ 0 → ⊥) → gone (splitAt m q) ≡ false → Parent after t (newRow m gone q)
+  thin-parent-row : (q : ℕ) → q < rows m → (rowOf m q .child ≡ 0 → ⊥) → gone (splitVertex m q) ≡ false → Parent after t (newRow m gone q)
   thin-parent-row q l split stay =
       let e = row-open q l split stay in
       let c = rowOf m q .child in
@@ -176,7 +177,7 @@ module _ {m : Mesh} {i t : ℕ} (g : Grown m i t) {gone : ℕ → Bool} (f : Fre
       let sx = first-stays v k l s in
       let sy = second-stays v k l s in
       let r = midpoint-row g f v k l (stays-says gone v s) in
-      let stay : gone (splitAt m (r .row)) ≡ false = ap gone (r .is) ∙ stays-says gone v s in
+      let stay : gone (splitVertex m (r .row)) ≡ false = ap gone (r .is) ∙ stays-says gone v s in
       record {
         rising = rw e (count-less (stays gone) x y (w .rising) sx);
         older = rw e (count-less (stays gone) y v (w .older) sy);

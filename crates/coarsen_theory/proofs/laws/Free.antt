@@ -14,10 +14,11 @@ use Rattle.tables.specs.Mesh.{Mesh}
 use Rattle.intake.specs.Search.{any}
 use Rattle.intake.proofs.laws.Search.{any-has}
 use Rattle.sound.specs.Sound.{rows, rowOf, place, Grown}
+use Rattle.sound.specs.Follows.{splitVertex}
 use Rattle.sound.proofs.laws.Afresh.{root-below}
 use Rattle.sound.proofs.laws.Searches.{and-both}
-use Rattle.coarsen_theory.specs.Dropping.{splitAt, leafNow, blocks, droppable, dropOne, dropAll, none, goneBy, LeafNow, childless, merged, Free}
-use Rattle.coarsen_theory.proofs.laws.Born.{parent-there, child-split, child-from}
+use Rattle.sound.proofs.laws.Halves.{parent-there, child-split, child-from}
+use Rattle.coarsen_theory.specs.Dropping.{leafNow, blocks, droppable, dropOne, dropAll, none, goneBy, LeafNow, childless, merged, Free}
 
 -- ---- tests and what they say
 
@@ -46,12 +47,12 @@ module _ {m : Mesh} {gone : ℕ → Bool} where
 pub record Droppable (m : Mesh) (i : ℕ) (gone : ℕ → Bool) (v : ℕ) : Type 0 where
   pub midpoint : i ≤ v
   pub still : gone v ≡ false
-  pub leaves : (r : ℕ) (s : Side) → r < rows m → (rowOf m r .child ≡ 0 → ⊥) → splitAt m r ≡ v → LeafNow m gone (place s (rowOf m r .child))
+  pub leaves : (r : ℕ) (s : Side) → r < rows m → (rowOf m r .child ≡ 0 → ⊥) → splitVertex m r ≡ v → LeafNow m gone (place s (rowOf m r .child))
 
 module _ (m : Mesh) (i : ℕ) (gone : ℕ → Bool) (v : ℕ) where
-  both-leaves : (r : ℕ) → blocks m gone v r ≡ false → (rowOf m r .child ≡ 0 → ⊥) → splitAt m r ≡ v → (leafNow m gone (rowOf m r .child) && leafNow m gone (rowOf m r .child + 1)) ≡ true
+  both-leaves : (r : ℕ) → blocks m gone v r ≡ false → (rowOf m r .child ≡ 0 → ⊥) → splitVertex m r ≡ v → (leafNow m gone (rowOf m r .child) && leafNow m gone (rowOf m r .child + 1)) ≡ true
   unfolding blocks
-  both-leaves r h d e = not-false _ (rw (ne-eqb (rowOf m r .child) 0 d, eq-eqb (splitAt m r) v e) at h)
+  both-leaves r h d e = not-false _ (rw (ne-eqb (rowOf m r .child) 0 d, eq-eqb (splitVertex m r) v e) at h)
 
   pub droppable-says : droppable m i gone v ≡ true → Droppable m i gone v
   unfolding droppable
@@ -76,14 +77,14 @@ module _ (m : Mesh) (i : ℕ) (gone : ℕ → Bool) (v : ℕ) where
   -- leaves stay leaves
   pub leaf-later : {r : ℕ} → LeafNow m gone r → LeafNow m (dropOne m i gone v) r
   leaf-later (childless e) = childless e
-  leaf-later {r} (merged d e) = merged d (drop-later (splitAt m r) e)
+  leaf-later {r} (merged d e) = merged d (drop-later (splitVertex m r) e)
 
 -- ---- one vertex
 
 module _ {m : Mesh} {i t : ℕ} (g : Grown m i t) {gone : ℕ → Bool} (f : Free m i gone) (v : ℕ) where
   -- the rows that hold v, where v is dropped
   module _ (d : Droppable m i gone v) where
-    born-leaf : (r : ℕ) (k : t ≤ r) (l : r < rows m) → splitAt m (rowOf m r .parent) ≡ v → LeafNow m (dropOne m i gone v) r
+    born-leaf : (r : ℕ) (k : t ≤ r) (l : r < rows m) → splitVertex m (rowOf m r .parent) ≡ v → LeafNow m (dropOne m i gone v) r
     born-leaf r k l e =
         let c = g .child r k l in
         leaf-later m i gone v (subst (LeafNow m gone) (sym (c .here)) (d .leaves (rowOf m r .parent) (c .side) (parent-there g r k l) (c .split) e))
@@ -97,12 +98,12 @@ module _ {m : Mesh} {i t : ℕ} (g : Grown m i t) {gone : ℕ → Bool} (f : Fre
       where
         below : (k : t ≤ r) → LeafNow m (dropOne m i gone v) (rowOf m r .parent) → LeafNow m (dropOne m i gone v) r
         below k (childless e) = absurd (g .child r k l .split e)
-        below k (merged s e) = elim (drop-cases m i gone v (splitAt m (rowOf m r .parent)) e) [
-          | inl x ↦ leaf-later m i gone v (f .leaf r (splitAt m (rowOf m r .parent)) l (child-split g r k l) x)
+        below k (merged s e) = elim (drop-cases m i gone v (splitVertex m (rowOf m r .parent)) e) [
+          | inl x ↦ leaf-later m i gone v (f .leaf r (splitVertex m (rowOf m r .parent)) l (child-split g r k l) x)
           | inr x ↦ born-leaf r k l (x .1)
         ]
 
-        go : (k : t ≤ r) → (v ≡ splitAt m (rowOf m r .parent)) ⊎ Holds 3 (cornersOf (rowOf m (rowOf m r .parent))) v
+        go : (k : t ≤ r) → (v ≡ splitVertex m (rowOf m r .parent)) ⊎ Holds 3 (cornersOf (rowOf m (rowOf m r .parent))) v
             → (rowOf m r .parent < n → rowOf m r .parent < rows m → Holds 3 (cornersOf (rowOf m (rowOf m r .parent))) v → LeafNow m (dropOne m i gone v) (rowOf m r .parent))
             → LeafNow m (dropOne m i gone v) r
         go k (inl e) earlier = born-leaf r k l (sym e)

@@ -1,18 +1,18 @@
 -- The initial vertices and roots of the thinned mesh are those of the mesh (01, "Sound tables", clause 3).
-use mathlib.Core.Path.{_≡_, refl, sym, ap, _∙_}
+use mathlib.Core.Path.{_≡_, sym, ap, _∙_}
 use mathlib.Core.Bool.{Bool}
-use mathlib.Core.List.{List, [], _∷_, _++_, map}
+use mathlib.Core.List.{List, map}
 use Prim.Native.Nat.{ℕ, _≤_, _<_}
 use native.Mathlib.Omega.{arith}
 use lib.ListN.{length, getD, take, length-map, List·getD-map}
 use lib.Seq.{length-take-le, getD-take, ext-getD}
-use Rattle.split.specs.declared.row.Row.{Row}
 use Rattle.split.specs.Split.{at}
 use Rattle.split.specs.Row.{cornersOf}
 use Rattle.tables.specs.Layout.{noPoint, noRecord, noRow}
-use Rattle.tables.specs.Mesh.{Mesh, flat}
-use Rattle.sound.specs.Sound.{vertices, rows, pointOf, recordOf, rowOf, childless, vertexCells, givenElements, Afresh, Grown}
+use Rattle.tables.specs.Mesh.{Mesh}
+use Rattle.sound.specs.Sound.{vertices, rows, pointOf, recordOf, rowOf, childless, Afresh, Grown}
 use Rattle.sound.proofs.laws.Afresh.{root-below}
+use Rattle.sound.proofs.laws.Front.{afresh-same}
 use Rattle.coarsen_theory.specs.Dropping.{Free}
 use Rattle.coarsen_theory.specs.Thinned.{stays, keeps, newVertex, thinRow, thinned}
 use Rattle.coarsen_theory.proofs.laws.Sifted.{count-up}
@@ -33,12 +33,6 @@ front-same : {A : Type 0} (d : A) (n : ℕ) (l k : List A) → n ≤ length l �
 front-same d n l k a b e =
     ext-getD d (take n l) (take n k) (length-take-le n l a ∙ sym (length-take-le n k b))
     (λ j s. let less : j < n = rw (length-take-le n l a) at s in getD-take n l j d less ∙ e j less ∙ sym (getD-take n k j d less))
-
--- opening reads of a row its vertices only
-vertices-childless : (l : List Row) → flat vertexCells l ≡ flat vertexCells (map childless l)
-unfolding flat
-vertices-childless [] = refl
-vertices-childless (r ∷ l) = ap (λ (x : List ℕ). vertexCells r ++ x) (vertices-childless l)
 
 module _ {m : Mesh} {i t : ℕ} (g : Grown m i t) {gone : ℕ → Bool} (f : Free m i gone) where
   abbrev after : Mesh
@@ -95,12 +89,5 @@ module _ {m : Mesh} {i t : ℕ} (g : Grown m i t) {gone : ℕ → Bool} (f : Fre
   pub rows-kept : map childless (take t (after .rows)) ≡ map childless (take t (m .rows))
   rows-kept = take-same childless noRow t (after .rows) (m .rows) rows-in (g .parted .rows-in) root-row
 
-  given-kept : givenElements after t ≡ givenElements m t
-  given-kept = vertices-childless (take t (after .rows)) ∙ ap (flat vertexCells) rows-kept ∙ sym (vertices-childless (take t (m .rows)))
-
   pub thin-afresh : length (m .points) ≡ vertices m → Afresh after i t
-  thin-afresh long = record {
-    opens = rw (points-kept long, given-kept) (g .afresh .opens);
-    colours = rw (points-kept long, given-kept, records-kept) (g .afresh .colours);
-    rows = rw (points-kept long, given-kept, rows-kept) (g .afresh .rows);
-  }
+  thin-afresh long = afresh-same (points-kept long) records-kept rows-kept (g .afresh)

@@ -15,9 +15,10 @@ use Rattle.tables.specs.Mesh.{Mesh}
 use Rattle.intake.specs.Search.{any}
 use Rattle.intake.proofs.laws.Search.{any-has, any-some}
 use Rattle.sound.specs.Sound.{vertices, rows, rowOf, place, Grown}
+use Rattle.sound.specs.Follows.{splitVertex}
 use Rattle.sound.proofs.laws.Offspring.{place-below}
 use Rattle.sound.proofs.laws.Searches.{and-both, agree}
-use Rattle.coarsen_theory.specs.Dropping.{splitAt, leafNow, blocks, droppable, none, LeafNow, childless, Free}
+use Rattle.coarsen_theory.specs.Dropping.{leafNow, blocks, droppable, none, LeafNow, childless, Free}
 use Rattle.coarsen_theory.specs.Thinned.{stays, keeps, newVertex, newRow, thinRow, thinned}
 use Rattle.coarsen_theory.proofs.laws.Sifted.{count-apart}
 use Rattle.coarsen_theory.proofs.laws.Free.{leaf-now, now-leaf}
@@ -33,7 +34,7 @@ split-says m r d = rw (ne-eqb (rowOf m r .child) 0 d)
 -- what a row that blocks v is
 record Blocking (m : Mesh) (gone : ℕ → Bool) (v r : ℕ) : Type 0 where
   split : rowOf m r .child ≡ 0 → ⊥
-  at-it : splitAt m r ≡ v
+  at-it : splitVertex m r ≡ v
 
 blocking-says : (m : Mesh) (gone : ℕ → Bool) (v r : ℕ) → blocks m gone v r ≡ true → Blocking m gone v r
 unfolding blocks
@@ -61,7 +62,7 @@ module _ {m : Mesh} {i t : ℕ} (g : Grown m i t) {gone : ℕ → Bool} (f : Fre
       go (leaf w e) = now-leaf w ∙ sym (after-leaf (row-child m i gone r l k ∙ e))
       go (parent s stay e) = stuck (leafNow m gone r) refl (still-split g f r s stay) ∙ sym (split-says after (newRow m gone r) (λ z. omega (arith, row-open g f r l s stay, open-later g f r l s stay)))
 
-  module _ (r : ℕ) (l : r < rows m) (split : rowOf m r .child ≡ 0 → ⊥) (stay : gone (splitAt m r) ≡ false) where
+  module _ (r : ℕ) (l : r < rows m) (split : rowOf m r .child ≡ 0 → ⊥) (stay : gone (splitVertex m r) ≡ false) where
     kept : keeps m gone r ≡ true
     kept = split-kept g f r l split stay
 
@@ -76,8 +77,8 @@ module _ {m : Mesh} {i t : ℕ} (g : Grown m i t) {gone : ℕ → Bool} (f : Fre
     child-there s = place-below g r l split s .there
 
     -- it is split at the same vertex
-    pub split-same : splitAt after (newRow m gone r) ≡ newVertex gone (splitAt m r)
-    unfolding splitAt
+    pub split-same : splitVertex after (newRow m gone r) ≡ newVertex gone (splitVertex m r)
+    unfolding splitVertex
     split-same =
         let c = rowOf m r .child in
         let tag = tagOf (rowOf m r) in
@@ -87,10 +88,10 @@ module _ {m : Mesh} {i t : ℕ} (g : Grown m i t) {gone : ℕ → Bool} (f : Fre
         ∙ row-corner m i gone c (child-there left) (children-kept g f r l split stay left) (number tag)
         ∙ ap (newVertex gone) (far-at (cornersOf (rowOf m c)) tag)
 
-    same-vertex : (v : ℕ) → gone v ≡ false → eqb (splitAt m r) v ≡ eqb (splitAt after (newRow m gone r)) (newVertex gone v)
-    same-vertex v e = elim (ℕ-discrete (splitAt m r) v) [
+    same-vertex : (v : ℕ) → gone v ≡ false → eqb (splitVertex m r) v ≡ eqb (splitVertex after (newRow m gone r)) (newVertex gone v)
+    same-vertex v e = elim (ℕ-discrete (splitVertex m r) v) [
       | yes p ↦ eq-eqb _ _ p ∙ sym (eq-eqb _ _ (split-same ∙ ap (newVertex gone) p))
-      | no n ↦ ne-eqb _ _ n ∙ sym (ne-eqb _ _ (λ p. n (count-apart (stays gone) (splitAt m r) v (says-stays gone _ stay) (says-stays gone v e) (sym split-same ∙ p))))
+      | no n ↦ ne-eqb _ _ n ∙ sym (ne-eqb _ _ (λ p. n (count-apart (stays gone) (splitVertex m r) v (says-stays gone _ stay) (says-stays gone v e) (sym split-same ∙ p))))
     ]
 
     child-same : (s : Side) → leafNow m gone (place s (rowOf m r .child)) ≡ leafNow after none (place s (rowOf after (newRow m gone r) .child))
@@ -110,7 +111,7 @@ module _ {m : Mesh} {i t : ℕ} (g : Grown m i t) {gone : ℕ → Bool} (f : Fre
     any-new h =
         let (r, b, e) = any-some (blocks m gone v) (rows m) h in
         let w = blocking-says m gone v r e in
-        let open-at : gone (splitAt m r) ≡ false = ap gone (w .at-it) ∙ stay in
+        let open-at : gone (splitVertex m r) ≡ false = ap gone (w .at-it) ∙ stay in
         any-has (blocks after none (newVertex gone v)) (rows after) (newRow m gone r) (row-below m i gone r b (split-kept g f r b (w .split) open-at)) (sym (blocks-same r b (w .split) open-at v stay) ∙ e)
 
     row-old : (r : ℕ) → r < rows m → keeps m gone r ≡ true → blocks after none (newVertex gone v) (newRow m gone r) ≡ true → blocks m gone v r ≡ true

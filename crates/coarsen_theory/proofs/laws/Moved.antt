@@ -13,11 +13,13 @@ use Rattle.tables.specs.Layout.{noPoint, noRecord, noRow}
 use Rattle.tables.specs.Mesh.{Mesh}
 use mathlib.Core.Logic.{inl, inr}
 use Rattle.sound.specs.Sound.{vertices, rows, pointOf, recordOf, rowOf, place, Grown}
-use Rattle.coarsen_theory.specs.Dropping.{splitAt, leafNow, LeafNow, childless, merged, Free}
+use Rattle.sound.specs.Follows.{splitVertex}
+use Rattle.sound.proofs.laws.Searches.{count-full}
+use Rattle.coarsen_theory.specs.Dropping.{leafNow, LeafNow, childless, merged, Free}
 use Rattle.coarsen_theory.specs.Thinned.{stays, keeps, newVertex, newRow, newChild, thinRow, moved, thinRecord, thinned}
-use Rattle.coarsen_theory.proofs.laws.Sifted.{Source, count-next, count-up, count-less, count-full, count-from, sift-length, sift-at}
+use Rattle.coarsen_theory.proofs.laws.Sifted.{Source, count-next, count-up, count-less, count-from, sift-length, sift-at}
 use Rattle.coarsen_theory.proofs.laws.Free.{leaf-now, now-leaf}
-use Rattle.coarsen_theory.proofs.laws.Together.{says-stays, split-kept, children-kept, initial-stays, root-kept}
+use Rattle.coarsen_theory.proofs.laws.Together.{stay-by, says-stays, split-kept, children-kept, initial-stays, root-kept}
 use Rattle.coarsen_theory.proofs.laws.Renamed.{renamed-at, renamed-edge}
 
 -- ---- lengths, and what stands at a new number
@@ -98,22 +100,18 @@ module _ (m : Mesh) (i : ℕ) (gone : ℕ → Bool) where
 
 pub data Fate (m : Mesh) (gone : ℕ → Bool) (q : ℕ) : Type 0 where
   leaf : LeafNow m gone q → newChild m gone q ≡ 0 → Fate m gone q
-  parent : (rowOf m q .child ≡ 0 → ⊥) → gone (splitAt m q) ≡ false → newChild m gone q ≡ newRow m gone (rowOf m q .child) → Fate m gone q
+  parent : (rowOf m q .child ≡ 0 → ⊥) → gone (splitVertex m q) ≡ false → newChild m gone q ≡ newRow m gone (rowOf m q .child) → Fate m gone q
 
 pub fate : (m : Mesh) (gone : ℕ → Bool) (q : ℕ) → Fate m gone q
 unfolding newChild
 fate m gone q = go (leafNow m gone q) refl
   where
-    stay : (b : Bool) → (b ≡ true → ⊥) → b ≡ false
-    stay true h = absurd (h refl)
-    stay false h = refl
-
     go : (b : Bool) → leafNow m gone q ≡ b → Fate m gone q
     go true e = leaf (leaf-now q e) (rw e)
     go false e =
         let never : LeafNow m gone q → ⊥ = λ w. true≢false (sym (now-leaf w) ∙ e) in
         let split : rowOf m q .child ≡ 0 → ⊥ = λ z. never (childless z) in
-        parent split (stay (gone (splitAt m q)) (λ z. never (merged split z))) (rw e)
+        parent split (stay-by (gone (splitVertex m q)) (λ z. never (merged split z))) (rw e)
 
 -- ---- order
 
@@ -139,7 +137,7 @@ module _ {m : Mesh} {i t : ℕ} (g : Grown m i t) {gone : ℕ → Bool} (f : Fre
   child-old r h = elim (le-or-lt t r) [ inl l ↦ l | inr l ↦ absurd (omega (arith, root-same r (omega arith))) ]
 
   -- the children of a row split at a vertex that stays
-  module _ (q : ℕ) (l : q < rows m) (split : rowOf m q .child ≡ 0 → ⊥) (stay : gone (splitAt m q) ≡ false) where
+  module _ (q : ℕ) (l : q < rows m) (split : rowOf m q .child ≡ 0 → ⊥) (stay : gone (splitVertex m q) ≡ false) where
     pub open-later : newRow m gone q < newRow m gone (rowOf m q .child)
     open-later = count-less (keeps m gone) q (rowOf m q .child) (g .parent q l split .later) (split-kept g f q l split stay)
 

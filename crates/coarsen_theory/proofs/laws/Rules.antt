@@ -1,6 +1,6 @@
 -- The definitions in the form in which code over tables has them at hand: the judgement of a vertex row by row, and what is kept by one vertex of a row and by the two maps.
 use mathlib.Core.Path.{_≡_, refl, sym, ap, _∙_}
-use mathlib.Core.Bool.{Bool, true, false, not, _&&_, cond, true≢false}
+use mathlib.Core.Bool.{Bool, true, false, not, _&&_, cond, true≢false, and-false}
 use Prim.Native.Nat.{ℕ, _+_, _≤_, _<_}
 use native.Mathlib.Omega.{arith}
 use borrow.Author.Tests.{le-leb, lt-leb, eq-eqb, ne-eqb, eqb-true, eqb-false}
@@ -11,9 +11,10 @@ use Rattle.split.specs.Row.{cornersOf, tagOf, below, firstOf, secondOf, childOf
 use Rattle.tables.specs.Mesh.{Mesh}
 use Rattle.intake.proofs.laws.Search.{any-has, any-none}
 use Rattle.sound.specs.Sound.{rows, rowOf, place, Grown}
-use Rattle.coarsen_theory.specs.Dropping.{splitAt, leafNow, blocks, droppable, LeafNow, childless, merged, Free}
+use Rattle.sound.specs.Follows.{splitVertex}
+use Rattle.sound.proofs.laws.Halves.{held-split}
+use Rattle.coarsen_theory.specs.Dropping.{leafNow, blocks, droppable, LeafNow, childless, merged, Free}
 use Rattle.coarsen_theory.specs.Thinned.{stays, keeps, newRow, newChild}
-use Rattle.coarsen_theory.proofs.laws.Born.{held-split}
 use Rattle.coarsen_theory.proofs.laws.Free.{Droppable, now-leaf}
 use Rattle.coarsen_theory.proofs.laws.Together.{kept-holds, children-kept, root-kept, child-keeps, child-at}
 use Rattle.coarsen_theory.proofs.laws.Moved.{leaf, parent, Fate, fate, root-same}
@@ -22,24 +23,20 @@ use Rattle.coarsen_theory.proofs.laws.Moved.{leaf, parent, Fate, fate, 
 
 module _ (m : Mesh) (i : ℕ) (gone : ℕ → Bool) (v : ℕ) where
   -- a row split at v with a child that is split still
-  pub row-blocks : (r : ℕ) (s : Side) → (rowOf m r .child ≡ 0 → ⊥) → splitAt m r ≡ v → leafNow m gone (place s (rowOf m r .child)) ≡ false → blocks m gone v r ≡ true
+  pub row-blocks : (r : ℕ) (s : Side) → (rowOf m r .child ≡ 0 → ⊥) → splitVertex m r ≡ v → leafNow m gone (place s (rowOf m r .child)) ≡ false → blocks m gone v r ≡ true
   unfolding blocks
-  row-blocks r s d e h = rw (ne-eqb (rowOf m r .child) 0 d, eq-eqb (splitAt m r) v e) (side s h)
+  row-blocks r s d e h = rw (ne-eqb (rowOf m r .child) 0 d, eq-eqb (splitVertex m r) v e) (side s h)
     where
-      and-false : (b : Bool) → b && false ≡ false
-      and-false true = refl
-      and-false false = refl
-
       side : (s : Side) → leafNow m gone (place s (rowOf m r .child)) ≡ false → not (leafNow m gone (rowOf m r .child) && leafNow m gone (rowOf m r .child + 1)) ≡ true
       side left x = rw x
       side right x = rw (x, and-false (leafNow m gone (rowOf m r .child)))
 
   -- a row that is no leaf and blocks nothing
-  free-row : (r : ℕ) → ((rowOf m r .child ≡ 0 → ⊥) → splitAt m r ≡ v → (s : Side) → LeafNow m gone (place s (rowOf m r .child))) → blocks m gone v r ≡ false
+  free-row : (r : ℕ) → ((rowOf m r .child ≡ 0 → ⊥) → splitVertex m r ≡ v → (s : Side) → LeafNow m gone (place s (rowOf m r .child))) → blocks m gone v r ≡ false
   unfolding blocks
-  free-row r h = go (eqb (rowOf m r .child) 0) (eqb (splitAt m r) v) refl refl
+  free-row r h = go (eqb (rowOf m r .child) 0) (eqb (splitVertex m r) v) refl refl
     where
-      go : (a b : Bool) → eqb (rowOf m r .child) 0 ≡ a → eqb (splitAt m r) v ≡ b → (not a && (b && not (leafNow m gone (rowOf m r .child) && leafNow m gone (rowOf m r .child + 1)))) ≡ false
+      go : (a b : Bool) → eqb (rowOf m r .child) 0 ≡ a → eqb (splitVertex m r) v ≡ b → (not a && (b && not (leafNow m gone (rowOf m r .child) && leafNow m gone (rowOf m r .child + 1)))) ≡ false
       go true b x y = refl
       go false false x y = refl
       go false true x y =
@@ -49,12 +46,7 @@ module _ (m : Mesh) (i : ℕ) (gone : ℕ → Bool) (v : ℕ) where
   -- one such row, and v stays
   pub blocked-stays : (r : ℕ) → r < rows m → blocks m gone v r ≡ true → droppable m i gone v ≡ false
   unfolding droppable
-  blocked-stays r l e = rw (any-has (blocks m gone v) (rows m) r l e) (twice (leb i v) (not (gone v)))
-    where
-      twice : (a b : Bool) → (a && (b && false)) ≡ false
-      twice true true = refl
-      twice true false = refl
-      twice false b = refl
+  blocked-stays r l e = rw (any-has (blocks m gone v) (rows m) r l e) (rw (and-false (not (gone v))) (and-false (leb i v)))
 
   -- an initial vertex and one that is gone stay so
   pub initial-passed : v < i → droppable m i gone v ≡ false
@@ -63,11 +55,7 @@ module _ (m : Mesh) (i : ℕ) (gone : ℕ → Bool) (v : ℕ) where
 
   pub gone-passed : gone v ≡ true → droppable m i gone v ≡ false
   unfolding droppable
-  gone-passed e = rw e (none (leb i v))
-    where
-      none : (a : Bool) → (a && false) ≡ false
-      none true = refl
-      none false = refl
+  gone-passed e = rw e (and-false (leb i v))
 
   -- no such row, and v is dropped
   pub says-droppable : Droppable m i gone v → droppable m i gone v ≡ true
@@ -105,7 +93,7 @@ module _ {m : Mesh} {i t : ℕ} (g : Grown m i t) where
     pub child-map : (q : ℕ) → q < rows m → 0 < t → newChild m gone q ≡ cond (keeps m gone (rowOf m q .child)) (newRow m gone (rowOf m q .child)) 0
     child-map q l h = go (fate m gone q)
       where
-        dropped : (d : rowOf m q .child ≡ 0 → ⊥) → gone (splitAt m q) ≡ true → (b : Bool) → keeps m gone (rowOf m q .child) ≡ b → 0 ≡ cond b (newRow m gone (rowOf m q .child)) 0
+        dropped : (d : rowOf m q .child ≡ 0 → ⊥) → gone (splitVertex m q) ≡ true → (b : Bool) → keeps m gone (rowOf m q .child) ≡ b → 0 ≡ cond b (newRow m gone (rowOf m q .child)) 0
         dropped d e true k = absurd (true≢false (sym e ∙ kept-holds m gone (rowOf m q .child) k (held-split g q l d left)))
         dropped d e false k = refl
 

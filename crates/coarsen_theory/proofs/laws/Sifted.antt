@@ -38,12 +38,6 @@ module _ (test : ℕ → Bool) where
   pub count-apart : (j k : ℕ) → test j ≡ true → test k ≡ true → count test j ≡ count test k → j ≡ k
   count-apart j k s t e = elim (against j k) [ less h ↦ absurd (omega (arith, count-less j k h s)) | equal i ↦ i | more h ↦ absurd (omega (arith, count-less k j h t)) ]
 
-  -- where all pass, numbers stay
-  pub count-full : (n : ℕ) → ((k : ℕ) → k < n → test k ≡ true) → count test n ≡ n
-  unfolding count
-  count-full zero h = refl
-  count-full (suc n) h = rw (count, h n (omega arith), count-full n (λ k l. h k (omega arith))) (add-one n)
-
   -- every number below the count is that of a place that passes
   pub count-from : (n x : ℕ) → x < count test n → Source test n x
   unfolding count

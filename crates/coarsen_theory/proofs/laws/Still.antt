@@ -1,30 +1,27 @@
 -- What is split in the thinned mesh: the elements of the rows that were split at a vertex that stays. Elements and vertices keep their names.
-use mathlib.Core.Path.{_≡_, sym, ap, _∙_, subst, fun-ext}
+use mathlib.Core.Path.{_≡_, sym, ap, _∙_, subst}
 use mathlib.Core.Bool.{Bool, true}
-use mathlib.Core.List.{List, [], _∷_}
-use mathlib.Core.Logic.{_↔_, inl, inr}
+use mathlib.Core.Logic.{_↔_, Iff·symm, inl, inr}
 use Prim.Native.Nat.{ℕ, zero, suc, _+_, _*_, _<_}
 use native.Mathlib.Omega.{arith}
-use lib.ListN.{length, getD, take, List·getD-map}
-use Rattle.split.specs.declared.row.Row.{Row}
-use Rattle.split.specs.Split.{Side, three}
-use Rattle.split.specs.Row.{cornersOf}
+use lib.ListN.{length}
+use Rattle.split.specs.Split.{Side}
 use Rattle.split.proofs.laws.Places.{le-or-lt}
-use Rattle.tables.specs.declared.record.Record.{Record}
-use Rattle.tables.specs.Layout.{noRecord, noRow}
 use Rattle.tables.specs.Mesh.{Mesh}
-use Rattle.forest.specs.Element.{Element, el}
-use Rattle.forest.specs.Closed.{Present, Closed}
-use Rattle.sound.specs.Sound.{vertices, rows, recordOf, rowOf, childless, place, Grown, Conforming}
+use Rattle.forest.specs.Element.{Element}
+use Rattle.forest.specs.Closed.{Closed}
+use Rattle.forest.proofs.Smallest.{closed-along}
+use Rattle.sound.specs.Sound.{vertices, rows, recordOf, rowOf, Grown, Conforming}
 use Rattle.sound.specs.Forest.{forestOf, colourIn, largestIn, nameOf, grown, elementOf, SplitOf, splitsIn}
+use Rattle.sound.proofs.laws.Front.{forest-same, colour-same, largest-same}
 use Rattle.sound.proofs.laws.Names.{name-initial, name-midpoint}
 use Rattle.sound.proofs.laws.Elements.{root-element, child-element}
 use Rattle.sound.proofs.laws.Offspring.{place-apart}
 use Rattle.sound.proofs.laws.Splits.{splits-closed}
 use Rattle.sound.proofs.laws.Count.{rows-count}
+use Rattle.sound.proofs.laws.Halves.{parent-there}
 use Rattle.coarsen_theory.specs.Dropping.{Free}
 use Rattle.coarsen_theory.specs.Thinned.{stays, keeps, newVertex, newRow, thinned, StillSplit}
-use Rattle.coarsen_theory.proofs.laws.Born.{parent-there}
 use Rattle.coarsen_theory.proofs.laws.Together.{stays-says, says-stays, split-kept, parent-kept, parents-stay}
 use Rattle.coarsen_theory.proofs.laws.Moved.{record-midpoint, row-parent, row-child, row-from, vertex-below, row-below, leaf, parent, Fate, fate, initial-same, midpoint-new, child-new, root-same, open-later}
 use Rattle.coarsen_theory.proofs.laws.Fresh.{records-kept, rows-kept}
@@ -36,18 +33,14 @@ module _ {m : Mesh} {i t : ℕ} (g : Grown m i t) {gone : ℕ → Bool} (f : Fre
 
   -- ---- the forest and its colours
 
-  root-corners : (k : ℕ) → cornersOf (getD (take t (after .rows)) k noRow) ≡ cornersOf (getD (take t (m .rows)) k noRow)
-  root-corners k = ap cornersOf (sym (List·getD-map childless (take t (after .rows)) k noRow) ∙ ap (λ (l : List Row). getD l k noRow) (rows-kept g f) ∙ List·getD-map childless (take t (m .rows)) k noRow)
+  pub thin-forest : forestOf after t ≡ forestOf m t
+  thin-forest = forest-same m after t (rows-kept g f)
 
-  pub forest-same : forestOf after t ≡ forestOf m t
-  forest-same = λ j. record { top = three; count = t; root = fun-ext root-corners j }
+  pub thin-colour : colourIn after i ≡ colourIn m i
+  thin-colour = colour-same m after i (records-kept g f)
 
-  pub colour-same : colourIn after i ≡ colourIn m i
-  colour-same = ap (λ (l : List Record). λ (u : ℕ). getD l u noRecord .first) (records-kept g f)
-
-  pub largest-same : largestIn after i ≡ largestIn m i
-  unfolding largestIn
-  largest-same = rw (records-kept g f)
+  pub thin-largest : largestIn after i ≡ largestIn m i
+  thin-largest = largest-same m after i (records-kept g f)
 
   module _ (few : vertices m < 4294967295) (long : length (m .points) ≡ vertices m) where
     whole : Grown after i t
@@ -64,8 +57,8 @@ module _ {m : Mesh} {i t : ℕ} (g : Grown m i t) {gone : ℕ → Bool} (f : Fre
           let (a, b) = parents-stay g f v k l (stays-says gone v s) in
           name-midpoint whole (newVertex gone v) (midpoint-new g f v k) (vertex-below m i gone v l s)
           ∙ rw (
-            largest-same,
-            colour-same,
+            thin-largest,
+            thin-colour,
             e,
             names-upto n (recordOf m v .first) (omega (arith, w .rising, w .older)) (omega (arith, w .rising, w .older)) (says-stays gone _ a),
             names-upto n (recordOf m v .second) (omega (arith, w .older)) (omega (arith, w .older)) (says-stays gone _ b),
@@ -124,17 +117,10 @@ module _ {m : Mesh} {i t : ℕ} (g : Grown m i t) {gone : ℕ → Bool} (f : Fre
 
     -- and it is a closed set of the same forest (demand 3)
     pub thin-closed : Conforming m i → Closed (forestOf m t) (SplitOf after t)
-    thin-closed o = rw forest-same at (splits-closed whole (thin-conforming g f o))
-
-    still-present : (e : Element) → Present (forestOf m t) (StillSplit m t gone) e → Present (forestOf m t) (SplitOf after t) e
-    still-present (el k []) h = h
-    still-present (el k (s ∷ p)) h = still-split (el k p) h
+    thin-closed o = rw thin-forest at (splits-closed whole (thin-conforming g f o))
 
     pub still-closed : Conforming m i → Closed (forestOf m t) (StillSplit m t gone)
-    still-closed o = record {
-      parents = λ k s p h. split-still (el k p) (thin-closed o .parents k s p (still-split (el k (s ∷ p)) h));
-      edges = λ e u p h d. split-still e (thin-closed o .edges e u (still-present e p) (still-split u h) d);
-    }
+    still-closed o = closed-along (λ e. Iff·symm (thin-splits e)) (thin-closed o)
 
     -- rows are the roots and two for each split: what coarsening charges to the first solver is twice the splits (02, L11)
     pub thin-rows : rows after ≡ t + 2 * splitsIn after

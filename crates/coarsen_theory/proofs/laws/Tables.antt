@@ -2,19 +2,18 @@
 use mathlib.Core.Path.{_≡_, sym, ap, _∙_}
 use mathlib.Core.Bool.{Bool}
 use mathlib.Core.List.{List}
-use mathlib.Core.Logic.{inl, inr}
 use Prim.Native.Nat.{ℕ, _≤_, _<_}
 use native.Mathlib.Omega.{arith}
 use lib.ListN.{length}
-use Rattle.split.proofs.laws.Places.{le-or-lt}
 use Rattle.tables.specs.declared.layout.Counts.{Counts}
 use Rattle.tables.specs.Layout.{pointAt, recordAt, rowAt, roomOf}
 use Rattle.tables.specs.Mesh.{Lent, Mesh, Unused, upTo, meshOf, laid}
-use Rattle.tables.proofs.laws.View.{Within, countsOf, length-up-to, mesh-laid, laid-mesh}
+use Rattle.tables.proofs.laws.View.{mesh-points, Within, countsOf, mesh-laid, laid-mesh}
 use Rattle.opening.proofs.laws.Counting.{count-below}
 use Rattle.sound.specs.Sound.{vertices, rows, pointOf, Sound}
 use Rattle.sound.proofs.laws.Tested.{Roomed}
-use Rattle.sound.proofs.laws.Laid.{laid-sound}
+use Rattle.sound.proofs.laws.Laid.{mesh-vertices, mesh-rows, laid-sound}
+use Rattle.sound.proofs.laws.Afresh.{roots-some}
 use Rattle.coarsen_theory.specs.Dropping.{goneBy, Free}
 use Rattle.coarsen_theory.specs.Thinned.{stays, keeps, newVertex, newRow, sift, thinRow, thinRecord, thinned}
 use Rattle.coarsen_theory.proofs.laws.Sifted.{count-less}
@@ -22,19 +21,6 @@ use Rattle.coarsen_theory.proofs.laws.Free.{gone-free}
 use Rattle.coarsen_theory.proofs.laws.Together.{root-kept}
 use Rattle.coarsen_theory.proofs.laws.Moved.{vertices-thinned, points-thinned, rows-thinned}
 use Rattle.coarsen_theory.proofs.laws.Clauses.{thin-grown, thin-conforming}
-
-module _ (t : Lent) (c : Counts) where
-  mesh-points : length (meshOf t c .points) ≡ c .vertices
-  unfolding meshOf
-  mesh-points = length-up-to (pointAt (t .points)) (c .vertices)
-
-  mesh-vertices : vertices (meshOf t c) ≡ c .vertices
-  unfolding meshOf
-  mesh-vertices = length-up-to (recordAt (t .records)) (c .vertices)
-
-  mesh-rows : rows (meshOf t c) ≡ c .rows
-  unfolding meshOf
-  mesh-rows = length-up-to (rowAt (t .rows)) (c .rows)
 
 module _ {t : Lent} {c : Counts} (s : Sound t c) where
   sound-few : c .vertices < 4294967295
@@ -64,11 +50,8 @@ module _ {t : Lent} {c : Counts} (s : Sound t c) where
     together = points-thinned m (s .initials) gone ∙ sym (vertices-thinned m (s .initials) gone)
 
     -- row 0 is a root, so it is kept
-    first-root : 0 < s .roots
-    first-root = elim (le-or-lt (s .roots) 0) [ inl h ↦ absurd (omega (arith, s .grown .child 0 h (omega (arith, mesh-rows t c, s .fitting .some)) .older)) | inr h ↦ h ]
-
     some-row : 1 ≤ rows after
-    some-row = rw (rows-thinned m (s .initials) gone) (omega (arith, count-less (keeps m gone) 0 (rows m) (omega (arith, mesh-rows t c, s .fitting .some)) (root-kept (s .grown) f 0 first-root)))
+    some-row = rw (rows-thinned m (s .initials) gone) (omega (arith, count-less (keeps m gone) 0 (rows m) (omega (arith, mesh-rows t c, s .fitting .some)) (root-kept (s .grown) f 0 (roots-some (s .grown .afresh) (s .grown .parted .rows-in)))))
 
     within : Within after (length (t .points)) (length (t .records)) (length (t .rows))
     within = record {

@@ -17,8 +17,9 @@ use Rattle.split.proofs.laws.Places.{le-or-lt}
 use Rattle.tables.specs.Mesh.{Mesh}
 use Rattle.intake.specs.Search.{count}
 use Rattle.sound.specs.Sound.{vertices, rows, pointOf, recordOf, rowOf, Grown}
+use Rattle.sound.specs.Follows.{splitVertex}
 use Rattle.sound.proofs.laws.Searches.{and-both, agree}
-use Rattle.coarsen_theory.specs.Dropping.{splitAt, leafNow, droppable, dropOne, none, childless, Free}
+use Rattle.coarsen_theory.specs.Dropping.{leafNow, droppable, dropOne, none, childless, Free}
 use Rattle.coarsen_theory.specs.Thinned.{stays, keeps, newVertex, newRow, sift, newChild, thinRow, thinRecord, moved, thinned}
 use Rattle.coarsen_theory.proofs.laws.Sifted.{count-apart}
 use Rattle.coarsen_theory.proofs.laws.Free.{now-leaf, droppable-says, leaf-later}
@@ -151,13 +152,13 @@ module _ {m : Mesh} {i t : ℕ} (g : Grown m i t) {gone : ℕ → Bool} (f : Fre
   gone-again x e = rw (e, d, droppable-again) (same-number x e)
 
   module _ (r : ℕ) (b : r < rows m) (k : keeps m gone r ≡ true) where
-    leaf-again : (rowOf m r .child ≡ 0 → ⊥) → gone (splitAt m r) ≡ false → leafNow m more r ≡ leafNow after again (newRow m gone r)
+    leaf-again : (rowOf m r .child ≡ 0 → ⊥) → gone (splitVertex m r) ≡ false → leafNow m more r ≡ leafNow after again (newRow m gone r)
     unfolding leafNow
     leaf-again s stay =
         let s' : rowOf after (newRow m gone r) .child ≡ 0 → ⊥ = λ z. omega (arith, row-open g f r b s stay, open-later g f r b s stay) in
-        rw (ne-eqb (rowOf m r .child) 0 s, ne-eqb (rowOf after (newRow m gone r) .child) 0 s', split-same g f r b s stay) (gone-again (splitAt m r) stay)
+        rw (ne-eqb (rowOf m r .child) 0 s, ne-eqb (rowOf after (newRow m gone r) .child) 0 s', split-same g f r b s stay) (gone-again (splitVertex m r) stay)
 
-    open-again : (rowOf m r .child ≡ 0 → ⊥) → gone (splitAt m r) ≡ false → newChild m more r ≡ newChild after again (newRow m gone r)
+    open-again : (rowOf m r .child ≡ 0 → ⊥) → gone (splitVertex m r) ≡ false → newChild m more r ≡ newChild after again (newRow m gone r)
     unfolding newChild
     open-again s stay = rw (leaf-again s stay, row-open g f r b s stay, row-again (rowOf m r .child) (omega (arith, g .parent r b s .both)))
 

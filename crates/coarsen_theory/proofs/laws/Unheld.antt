@@ -12,9 +12,10 @@ use Rattle.split.proofs.laws.Ends.{ends-rising, ends-commute}
 use Rattle.split.proofs.laws.Children.{far-at, kept}
 use Rattle.tables.specs.Mesh.{Mesh}
 use Rattle.sound.specs.Sound.{vertices, rows, recordOf, rowOf, place, Grown, Conforming}
+use Rattle.sound.specs.Follows.{splitVertex}
 use Rattle.sound.proofs.laws.Offspring.{place-below}
-use Rattle.coarsen_theory.specs.Dropping.{splitAt, LeafNow, childless, merged, Free}
-use Rattle.coarsen_theory.proofs.laws.Born.{half, half-corners, holds-same, one-middle, held-split}
+use Rattle.sound.proofs.laws.Halves.{half, half-corners, holds-same, one-middle, held-split}
+use Rattle.coarsen_theory.specs.Dropping.{LeafNow, childless, merged, Free}
 
 -- two places of a row: one child has what stands at both, or they are the ends of its edge
 data Pairing (g : Tag) (p q : ℕ) : Type 0 where
@@ -45,9 +46,9 @@ module _ {m : Mesh} {i t : ℕ} (g : Grown m i t) (o : Conforming m i) {gone : �
   y = recordOf m w .second
 
   -- a row whose edge has w as its midpoint is split at it
-  not-edge : (r : ℕ) → r < rows m → (rowOf m r .child ≡ 0 → ⊥) → gone (splitAt m r) ≡ true → edgeOf (rowOf m r) ≡ ends x y → ⊥
+  not-edge : (r : ℕ) → r < rows m → (rowOf m r .child ≡ 0 → ⊥) → gone (splitVertex m r) ≡ true → edgeOf (rowOf m r) ≡ ends x y → ⊥
   not-edge r h s e p =
-      let z = one-middle g w (splitAt m r) (record { midpoint = k; there = l; ends = sym (ends-rising (omega (arith, g .midpoint w k l .rising))) ∙ sym p }) (half g r h s left .records) in
+      let z = one-middle g w (splitVertex m r) (record { midpoint = k; there = l; ends = sym (ends-rising (omega (arith, g .midpoint w k l .rising))) ∙ sym p }) (half g r h s left .records) in
       true≢false (sym e ∙ ap gone (sym z) ∙ stay)
 
   unheld-from : (n r : ℕ) → rows m ≤ r + n → r < rows m → LeafNow m gone r → Holds 3 (cornersOf (rowOf m r)) x → Holds 3 (cornersOf (rowOf m r)) y → ⊥
@@ -57,7 +58,7 @@ module _ {m : Mesh} {i t : ℕ} (g : Grown m i t) (o : Conforming m i) {gone : �
     where
       below : (d : Side) {z : ℕ} (u : Holds 3 (cornersOf (rowOf m r)) z) → (u .place ≡ lacked d (tagOf (rowOf m r)) → ⊥) → Holds 3 (cornersOf (rowOf m (place d (rowOf m r .child)))) z
       below d u p =
-          let v = kept 3 (cornersOf (rowOf m r)) (splitAt m r) d (tagOf (rowOf m r)) (tag-range (tagOf (rowOf m r)) .1) (omega arith) (u .place) (u .inside) p in
+          let v = kept 3 (cornersOf (rowOf m r)) (splitVertex m r) d (tagOf (rowOf m r)) (tag-range (tagOf (rowOf m r)) .1) (omega arith) (u .place) (u .inside) p in
           holds-same (half-corners (half g r h s d)) (record { place = v .place; inside = v .inside; is = v .is ∙ u .is })
 
       later : (d : Side) → r < place d (rowOf m r .child)
@@ -68,7 +69,7 @@ module _ {m : Mesh} {i t : ℕ} (g : Grown m i t) (o : Conforming m i) {gone : �
           → ((q : ℕ) → rows m ≤ q + n → q < rows m → LeafNow m gone q → Holds 3 (cornersOf (rowOf m q)) x → Holds 3 (cornersOf (rowOf m q)) y → ⊥) → ⊥
       go (together d p q) next =
           let j = place-below g r h s d .there in
-          next (place d (rowOf m r .child)) (omega (arith, later d)) j (f .leaf (place d (rowOf m r .child)) (splitAt m r) j (held-split g r h s d) e) (below d a p) (below d c q)
+          next (place d (rowOf m r .child)) (omega (arith, later d)) j (f .leaf (place d (rowOf m r .child)) (splitVertex m r) j (held-split g r h s d) e) (below d a p) (below d c q)
       go (edge p q) next = not-edge r h s e (edge-is (rowOf m r) x y (ap (at (cornersOf (rowOf m r))) (sym p) ∙ a .is) (ap (at (cornersOf (rowOf m r))) (sym q) ∙ c .is))
       go (turned p q) next =
           not-edge r h s e

@@ -7,11 +7,9 @@ use native.Mathlib.Omega.{arith}
 use Rattle.intake.specs.declared.answer.Found.{Found}
 use Rattle.intake.specs.declared.answer.Found.the-variants.{At, Nowhere}
 use Rattle.run.specs.Skeleton.{Skeleton}
+use Rattle.run.proofs.laws.Compute.{same-result}
 use Rattle.completion.specs.Completion.{lowest, splitOne, splitMarks, Completes, complete, onward, Completed}
 use Rattle.completion.specs.Compute.{looped}
-
-same-result : {A B : Skeleton} → some A ≡ some B → B ≡ A
-same-result e = cc
 
 pub looped-completes : (n : ℕ) (S S' : Skeleton) → looped n S ≡ some S' → Completes S S'
 unfolding looped

@@ -14,14 +14,14 @@ use Rattle.run.specs.Skeleton.{Skeleton, meshed}
 use Rattle.run.specs.Ready.{Ready, Growing}
 use Rattle.run.specs.Run.{Within, Over}
 use Rattle.run.specs.Demand.{Needed, Outgrows}
-use Rattle.run.proofs.laws.Needs.{Inside, AllMarkable, markable-later, needed-split, needed-mark}
+use Rattle.run.proofs.laws.Needs.{Inside, AllMarkable, markable-open, markable-later, needed-split, needed-mark}
 use Rattle.run.proofs.laws.Single.{growing}
 use Rattle.run.proofs.laws.Sizes.{split-fits, split-outgrows}
 use Rattle.completion.specs.Completion.{splitOne, Completed, StuckLoop, Stuck}
 use Rattle.completion.specs.Completion.StuckLoop.{full as loop-full, onward as loop-onward}
 use Rattle.completion.specs.Completion.Stuck.{loop, passed, full, split}
 use Rattle.completion.proofs.laws.One.{one-records}
-use Rattle.completion.proofs.laws.Steps.{Went, mark-open, went-on, went-one, went-lowest}
+use Rattle.completion.proofs.laws.Steps.{Went, went-on, went-one, went-lowest}
 use Rattle.completion.proofs.laws.Demanded.{completed-finished}
 use Rattle.completion.proofs.laws.Ends.{CallEnds, accepts, refuses, call-ends}
 
@@ -46,9 +46,9 @@ module _ (P : List Point) (i t : ℕ) (Z : Element → Type 0) (room : Counts) (
   pub stuck-over : {S : Skeleton} {rs : List ℕ} → Stuck room S rs → Growing P i t S → Within room S → AllMarkable S rs → Closed (forestOf (meshed P S) t) Z → Inside (meshed P S) t Z → ((r : ℕ) → List·Memᴰ r rs → Z (elementOf (meshed P S) t r)) → Overrun P i t Z room S
   stuck-over (loop p) y f k c d z = loop-over p y f c d
   stuck-over (passed n p) y f k c d z = stuck-over p y f (λ q j. k q (List·Memᴰ·tail j)) c d (λ q j. z q (List·Memᴰ·tail j))
-  stuck-over {S} (full {r = r} l v) y f k c d z = record { mesh = splitOne S r; went = went-one P i t Z r y (few S r f) d (mark-open l (k r (List·Memᴰ·head refl))) (z r (List·Memᴰ·head refl)); over = v }
+  stuck-over {S} (full {r = r} l v) y f k c d z = record { mesh = splitOne S r; went = went-one P i t Z r y (few S r f) d (markable-open l (k r (List·Memᴰ·head refl))) (z r (List·Memᴰ·head refl)); over = v }
   stuck-over {S} (split {r = r} l v p) y f k c d z =
-      let u = went-one P i t Z r y (few S r f) d (mark-open l (k r (List·Memᴰ·head refl))) (z r (List·Memᴰ·head refl)) in
+      let u = went-one P i t Z r y (few S r f) d (markable-open l (k r (List·Memᴰ·head refl))) (z r (List·Memᴰ·head refl)) in
       later u (stuck-over p (u .growing) v (λ q j. markable-later (u .grows) (k q (List·Memᴰ·tail j))) (rw (u .grows .forest) c) (u .inside) (λ q j. rw (u .grows .element q (k q (List·Memᴰ·tail j) .there)) (z q (List·Memᴰ·tail j))))
 
 -- ---- number 2

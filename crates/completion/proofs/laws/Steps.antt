@@ -13,7 +13,7 @@ use Rattle.sound.specs.Forest.{forestOf, elementOf}
 use Rattle.run.specs.Skeleton.{Skeleton, rowIn, meshed}
 use Rattle.run.specs.Ready.{Ready, Growing, Open}
 use Rattle.run.proofs.laws.Grows.{Grows, grows-same, grows-on}
-use Rattle.run.proofs.laws.Needs.{Inside, Markable, AllMarkable, markable-later}
+use Rattle.run.proofs.laws.Needs.{Inside, AllMarkable, markable-open, markable-later}
 use Rattle.completion.specs.Completion.{lowest, splitOne, splitMarks, Completes, complete, onward, Completed}
 use Rattle.completion.proofs.laws.Marks.{marks-through}
 use Rattle.completion.proofs.laws.One.{one-rows, one-records, one-divided}
@@ -52,10 +52,6 @@ pub record Went (P : List Point) (i t : ℕ) (Z : Element → Type 0) (S T : Ske
   pub growing : Growing P i t T
   pub grows : Grows (meshed P S) (meshed P T) i t
   pub inside : Inside (meshed P T) t Z
-
--- a marked leaf can be split
-pub mark-open : {S : Skeleton} {r : ℕ} → rowIn (S .rows) r .child ≡ 0 → Markable S r → Open S r
-mark-open l k = record { there = k .there; leaf = l; shallow = k .shallow l }
 
 module _ (P : List Point) (i t : ℕ) (Z : Element → Type 0) where
   pub went-none : {S : Skeleton} → Growing P i t S → Inside (meshed P S) t Z → Went P i t Z S S
@@ -100,7 +96,7 @@ module _ (P : List Point) (i t : ℕ) (Z : Element → Type 0) where
   split-leads : (S : Skeleton) (r : ℕ) (rs : List ℕ) → rowIn (S .rows) r .child ≡ 0 → Leads (splitOne S r) rs (splitMarks (splitOne S r) rs) → Leads S (r ∷ rs) (splitMarks (splitOne S r) rs)
   split-leads S r rs l f = record {
     from = λ y few k d z.
-        let o = mark-open l (k r (List·Memᴰ·head refl)) in
+        let o = markable-open l (k r (List·Memᴰ·head refl)) in
         let less : length (splitOne S r .records) < 4294967295 = omega (arith, marks-records (splitOne S r) rs) in
         let u = went-one r y less d o (z r (List·Memᴰ·head refl)) in
         marked-on (o .there) u (one-divided r y less o .own) (f .from (u .growing) few (λ x j. markable-later (u .grows) (k x (List·Memᴰ·tail j))) (u .inside) (λ x j. rw (u .grows .element x (k x (List·Memᴰ·tail j) .there)) (z x (List·Memᴰ·tail j))));

@@ -23,7 +23,7 @@ went : (o : Option Skeleton) (next : Skeleton → Option Skeleton) (S' : Skeleto
 went none next S' e = let z : _≡_ {A = ℕ} 0 1 = cc in absurd (omega arith)
 went (some T) next S' e = record { between = T; first = refl; second = e }
 
-same-result : {A B : Skeleton} → some A ≡ some B → B ≡ A
+pub same-result : {A B : Skeleton} → some A ≡ some B → B ≡ A
 same-result e = cc
 
 pub refine-runs : (n : ℕ) (S S' : Skeleton) (r : ℕ) → refine n S r ≡ some S' → Run S r S'

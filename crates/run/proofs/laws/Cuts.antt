@@ -1,6 +1,6 @@
 -- The split of one leaf keeps everything in sound tables but their last condition (01, "Sound tables", clauses 2 to 6).
 use mathlib.Core.Path.{_≡_, refl, sym, ap, _∙_}
-use mathlib.Core.List.{List, [], _∷_, _++_, map}
+use mathlib.Core.List.{map}
 use mathlib.Core.Logic.{inl, inr}
 use Prim.Native.Nat.{ℕ, _+_, _≤_, _<_}
 use native.Mathlib.Decide.{ℕ-discrete}
@@ -8,7 +8,7 @@ use native.Mathlib.Omega.{arith}
 use lib.ListN.{take}
 use Rattle.split.specs.declared.row.Row.{Row}
 use Rattle.split.specs.declared.row.Ends.{Ends}
-use Rattle.split.specs.Split.{Side, left, right, number, far, at}
+use Rattle.split.specs.Split.{Side, left, right, number, far}
 use Rattle.split.specs.Row.{cornersOf, tagOf, ends, edgeOf, below, firstOf, secondOf, childOf, pair}
 use Rattle.split.specs.Midpoint.{between}
 use Rattle.split.proofs.laws.Places.{le-or-lt}
@@ -17,8 +17,9 @@ use Rattle.split.proofs.laws.Children.{far-at}
 use Rattle.split.proofs.laws.Ends.{ends-rising, ends-falling}
 use Rattle.split.proofs.laws.Rows.{row-step, deeper-is}
 use Rattle.tables.specs.declared.record.Record.{Record}
-use Rattle.tables.specs.Mesh.{Mesh, flat}
-use Rattle.sound.specs.Sound.{vertices, rows, pointOf, recordOf, rowOf, childless, vertexCells, givenElements, Parted, Afresh, Records, place, Child, Parent, Midpoint, Grown}
+use Rattle.tables.specs.Mesh.{Mesh}
+use Rattle.sound.specs.Sound.{vertices, rows, pointOf, recordOf, rowOf, childless, Parted, Records, place, Child, Parent, Midpoint, Grown}
+use Rattle.sound.proofs.laws.Front.{afresh-same}
 use Rattle.sound.proofs.laws.Placed.{placed, row-distinct}
 use Rattle.run.specs.Run.{withChild}
 
@@ -60,11 +61,6 @@ child-leaf : (x : Side) (r : Row) (own v : ℕ) → childless (childOf x r own v
 unfolding firstOf secondOf below
 child-leaf left r own v = refl
 child-leaf right r own v = refl
-
-vertices-childless : (l : List Row) → flat vertexCells l ≡ flat vertexCells (map childless l)
-unfolding flat
-vertices-childless [] = refl
-vertices-childless (r ∷ l) = ap (λ (x : List ℕ). vertexCells r ++ x) (vertices-childless l)
 
 -- ---- the ends of a row's edge
 
@@ -140,16 +136,6 @@ module _ {m m' : Mesh} {i t s v : ℕ} (g : Grown m i t) (c : Cuts m m' i t s v)
       later : (x : Side) (r : ℕ) → r ≡ place x (rows m) → rowOf m' r .parent ≡ r → ⊥
       later left r q e = omega (arith, c .there, rw (← q) at (born-parent left))
       later right r q e = omega (arith, c .there, rw (← q) at (born-parent right))
-
-  given-kept : givenElements m' t ≡ givenElements m t
-  given-kept = vertices-childless (take t (m' .rows)) ∙ ap (flat vertexCells) (c .rows-kept) ∙ sym (vertices-childless (take t (m .rows)))
-
-  cut-afresh : Afresh m' i t
-  cut-afresh = record {
-    opens = rw (c .points-kept, given-kept) (g .afresh .opens);
-    colours = rw (c .points-kept, given-kept, c .records-kept) (g .afresh .colours);
-    rows = rw (c .points-kept, given-kept, c .rows-kept) (g .afresh .rows);
-  }
 
   records-stay : {u : ℕ} {e : Ends} → Records m i u e → Records m' i u e
   records-stay {u} w = record { midpoint = w .midpoint; there = omega (arith, w .there, c .vertices-kept); ends = rw (c .record-old u (w .there)) (w .ends) }
@@ -252,7 +238,7 @@ module _ {m m' : Mesh} {i t s v : ℕ} (g : Grown m i t) (c : Cuts m m' i t s v)
   pub cut-grown : Grown m' i t
   cut-grown = record {
     parted = cut-parted;
-    afresh = cut-afresh;
+    afresh = afresh-same (c .points-kept) (c .records-kept) (c .rows-kept) (g .afresh);
     child = λ r h l. elim (either r l) [ before k ↦ child-before r h k | next x e ↦ rw e (child-next x) ];
     parent = cut-parent;
     midpoint = λ u h l. elim (le-or-lt (vertices m) u) [ inr k ↦ midpoint-before u h k | inl k ↦ let e = c .new u k l in rw e (midpoint-new (rw (← e) k)) ];

@@ -11,7 +11,7 @@ use Rattle.split.proofs.laws.Places.{le-or-lt}
 use Rattle.split.proofs.laws.Tags.{tag-range}
 use Rattle.split.proofs.laws.Children.{far-at}
 use Rattle.tables.specs.Mesh.{Mesh}
-use Rattle.forest.specs.Element.{depth, shape, near, away, HoldsEdge}
+use Rattle.forest.specs.Element.{shape, HoldsEdge}
 use Rattle.forest.proofs.Shallow.{too-deep}
 use Rattle.forest.proofs.Blocking.{SameEdge}
 use Rattle.forest.proofs.Theory.{blocking}
@@ -20,6 +20,7 @@ use Rattle.sound.specs.Forest.{forestOf, colourIn, largestIn, nameOf, elementOf
 use Rattle.run.specs.Ready.{edgeRank}
 use Rattle.sound.proofs.laws.Afresh.{coloured}
 use Rattle.sound.proofs.laws.Names.{one-vertex, kept, swapped, sorted-ends}
+use Rattle.sound.proofs.laws.Halves.{edge-held}
 use Rattle.sound.proofs.laws.Placed.{Placed, placed, placed-at, placed-near, placed-away, row-fits}
 
 -- the row holds both ends of e
@@ -31,15 +32,9 @@ pub record Both (r : Row) (e : Ends) : Type 0 where
 pub both-ends : (r : Row) (a b : ℕ) → Both r (ends a b) → Holds 3 (cornersOf r) a × Holds 3 (cornersOf r) b
 both-ends r a b h = elim (sorted-ends a b (ends a b .small) (ends a b .large) refl) [ kept x y ↦ (rw (← x) (h .small), rw (← y) (h .large)) | swapped x y ↦ (rw (← y) (h .large), rw (← x) (h .small)) ]
 
-pub ends-both : (r : Row) (a b : ℕ) → Holds 3 (cornersOf r) a → Holds 3 (cornersOf r) b → Both r (ends a b)
-ends-both r a b h k = elim (sorted-ends a b (ends a b .small) (ends a b .large) refl) [ kept x y ↦ record { small = rw x h; large = rw y k } | swapped x y ↦ record { small = rw x k; large = rw y h } ]
-
 -- a row holds both ends of its own edge
 pub own-both : (r : Row) → Both r (edgeOf r)
-unfolding edgeOf
-own-both r =
-    let tag = tagOf r in
-    ends-both r (r .v0) (far tag (cornersOf r)) (record { place = 0; inside = omega arith; is = refl }) (record { place = number tag; inside = tag-range tag .1; is = far-at (cornersOf r) tag })
+own-both r = let (a, b) = edge-held r (edgeOf r .small) (edgeOf r .large) refl in record { small = a; large = b }
 
 module _ {m : Mesh} {i t : ℕ} (g : Grown m i t) where
   named-holds : {r : ℕ} → Placed m i t r → (v : ℕ) → Holds 3 (cornersOf (rowOf m r)) v → Holds 3 (shape (forestOf m t) (elementOf m t r) .corners) (nameOf m i v)

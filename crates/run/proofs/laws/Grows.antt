@@ -1,19 +1,13 @@
 -- What stays when leaves are split: old rows but for their first children, names of vertices, elements of rows.
-use mathlib.Core.Path.{_≡_, refl, sym, ap, _∙_, fun-ext}
-use mathlib.Core.List.{List}
+use mathlib.Core.Path.{_≡_, refl, sym, _∙_}
 use mathlib.Core.Logic.{inl, inr}
 use Prim.Native.Nat.{ℕ, zero, suc, _≤_, _<_}
 use native.Mathlib.Omega.{arith}
-use lib.ListN.{getD, take, List·getD-map}
-use Rattle.split.specs.declared.row.Row.{Row}
-use Rattle.split.specs.Split.{three}
-use Rattle.split.specs.Row.{cornersOf}
 use Rattle.split.proofs.laws.Places.{le-or-lt}
-use Rattle.tables.specs.declared.record.Record.{Record}
-use Rattle.tables.specs.Layout.{noRecord, noRow}
 use Rattle.tables.specs.Mesh.{Mesh}
 use Rattle.sound.specs.Sound.{vertices, rows, recordOf, rowOf, childless, Grown}
 use Rattle.sound.specs.Forest.{forestOf, colourIn, largestIn, nameOf, elementOf}
+use Rattle.sound.proofs.laws.Front.{forest-same, colour-same, largest-same}
 use Rattle.sound.proofs.laws.Names.{name-initial, name-midpoint}
 use Rattle.sound.proofs.laws.Elements.{root-element, child-element}
 use Rattle.sound.proofs.laws.Offspring.{place-apart}
@@ -71,18 +65,11 @@ module _ {m m' : Mesh} {i t s v : ℕ} (g : Grown m i t) (c : Cuts m m' i t s v)
   after : Grown m' i t
   after = cut-grown g c
 
-  root-kept : (k : ℕ) → cornersOf (getD (take t (m' .rows)) k noRow) ≡ cornersOf (getD (take t (m .rows)) k noRow)
-  root-kept k = ap cornersOf (sym (List·getD-map childless (take t (m' .rows)) k noRow) ∙ ap (λ (l : List Row). getD l k noRow) (c .rows-kept) ∙ List·getD-map childless (take t (m .rows)) k noRow)
-
-  forest-kept : forestOf m' t ≡ forestOf m t
-  forest-kept = λ j. record { top = three; count = t; root = fun-ext root-kept j }
-
   colour-kept : colourIn m' i ≡ colourIn m i
-  colour-kept = ap (λ (l : List Record). λ (u : ℕ). getD l u noRecord .first) (c .records-kept)
+  colour-kept = colour-same m m' i (c .records-kept)
 
   largest-kept : largestIn m' i ≡ largestIn m i
-  unfolding largestIn
-  largest-kept = rw (c .records-kept)
+  largest-kept = largest-same m m' i (c .records-kept)
 
   names-kept : (n u : ℕ) → u < n → u < vertices m → nameOf m' i u ≡ nameOf m i u
   names-kept zero u h l = absurd (omega arith)
@@ -113,7 +100,7 @@ module _ {m m' : Mesh} {i t s v : ℕ} (g : Grown m i t) (c : Cuts m m' i t s v)
     row = row-kept g c;
     split = split-kept g c;
     record-old = c .record-old;
-    forest = forest-kept;
+    forest = forest-same m m' t (c .rows-kept);
     colour = colour-kept;
     largest = largest-kept;
     name = λ u h. names-kept (vertices m) u h h;

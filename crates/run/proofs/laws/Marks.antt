@@ -13,7 +13,7 @@ use Rattle.run.specs.Ready.{Ready}
 use Rattle.run.specs.Skeleton.{Skeleton, rowIn, meshed}
 use Rattle.run.specs.Run.{Run, RunAll, done, passed, refined}
 use Rattle.run.proofs.laws.Grows.{Grows, grows-same, grows-on}
-use Rattle.run.proofs.laws.Needs.{Inside, AllMarkable, markable-later}
+use Rattle.run.proofs.laws.Needs.{Inside, AllMarkable, markable-open, markable-later}
 use Rattle.run.proofs.laws.Runs.{run-records, run-refined}
 
 pub record Finished (P : List Point) (i t : ℕ) (S S' : Skeleton) (rs : List ℕ) (Z : Element → Type 0) : Type 0 where
@@ -49,7 +49,7 @@ module _ (P : List Point) (i t : ℕ) (Z : Element → Type 0) where
   refined-leads {S} {T} {S'} {r} {rs} l p q f = record {
     from = λ y few k c d z.
         let o = k r (List·Memᴰ·head refl) in
-        let u = run-refined P i t Z p y (omega (arith, few, all-records q)) (record { there = o .there; leaf = l; shallow = o .shallow l }) c d (z r (List·Memᴰ·head refl)) in
+        let u = run-refined P i t Z p y (omega (arith, few, all-records q)) (markable-open l o) c d (z r (List·Memᴰ·head refl)) in
         let rise : (x : ℕ) → List·Memᴰ x rs → x < length (S .rows) = λ x j. k x (List·Memᴰ·tail j) .there in
         let w = f .from (u .ready) few (λ x j. markable-later (u .grows) (k x (List·Memᴰ·tail j))) (rw (u .grows .forest) c) (u .inside) (λ x j. rw (u .grows .element x (rise x j)) (z x (List·Memᴰ·tail j))) in
         let same = w .grows .split r (omega (arith, u .grows .more-rows, o .there)) (u .split) in

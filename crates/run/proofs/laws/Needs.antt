@@ -25,6 +25,7 @@ use Rattle.sound.proofs.laws.Offspring.{place-below, place-element}
 use Rattle.sound.proofs.laws.Placed.{placed}
 use Rattle.sound.proofs.laws.Splits.{row-present, splits-closed}
 use Rattle.run.specs.Skeleton.{Skeleton, skeleton, rowIn}
+use Rattle.run.specs.Ready.{Open}
 use Rattle.run.specs.Demand.{MarkedIn, Needed, Deep}
 use Rattle.run.proofs.laws.Edge.{Both, holds-edge}
 use Rattle.run.proofs.laws.Grows.{Grows}
@@ -63,6 +64,9 @@ pub record Markable (S : Skeleton) (r : ℕ) : Type 0 where
 
 abbrev pub AllMarkable : Skeleton → List ℕ → Type 0
 AllMarkable S rs = (r : ℕ) → List·Memᴰ r rs → Markable S r
+
+pub markable-open : {S : Skeleton} {r : ℕ} → rowIn (S .rows) r .child ≡ 0 → Markable S r → Open S r
+markable-open l k = record { there = k .there; leaf = l; shallow = k .shallow l }
 
 -- a row that may be marked may be so later
 pub markable-later : {m m' : Mesh} {i t r : ℕ} → Grows m m' i t → Markable (skeleton m) r → Markable (skeleton m') r

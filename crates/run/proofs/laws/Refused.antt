@@ -18,7 +18,7 @@ use Rattle.run.specs.Run.{blocking, recordFor, splitPatch, Run, clear, W
 use Rattle.run.specs.Demand.{Needed, Outgrows}
 use Rattle.run.proofs.laws.Grows.{Grows, grows-on}
 use Rattle.run.proofs.laws.Runs.{run-refined, block-open, block-forced, still-open}
-use Rattle.run.proofs.laws.Needs.{Inside, needed-split, needed-mark, Markable, AllMarkable, markable-later}
+use Rattle.run.proofs.laws.Needs.{Inside, needed-split, needed-mark, AllMarkable, markable-open, markable-later}
 use Rattle.run.proofs.laws.Sizes.{split-outgrows}
 
 patch-length : (S : Skeleton) (r : ℕ) → length (splitPatch S r .records) ≡ length (S .records) + 1
@@ -73,11 +73,8 @@ module _ (P : List Point) (i t : ℕ) (Z : Element → Type 0) (room : Counts) (
   record LeadsAll (S : Skeleton) (rs : List ℕ) : Type 0 where
     from : Ready P i t S → Within room S → AllMarkable S rs → Closed (forestOf (meshed P S) t) Z → Inside (meshed P S) t Z → ((r : ℕ) → List·Memᴰ r rs → Z (elementOf (meshed P S) t r)) → Overrun P i t Z room S
 
-  opened : {S : Skeleton} {r : ℕ} → rowIn (S .rows) r .child ≡ 0 → Markable S r → Open S r
-  opened l k = record { there = k .there; leaf = l; shallow = k .shallow l }
-
   here-leads : {S : Skeleton} {r : ℕ} {rs : List ℕ} → rowIn (S .rows) r .child ≡ 0 → Stuck room S r → LeadsAll S (r ∷ rs)
-  here-leads {S} {r} l p = record { from = λ y f k c d z. stuck-over p y f (opened l (k r (List·Memᴰ·head refl))) c d (z r (List·Memᴰ·head refl)) }
+  here-leads {S} {r} l p = record { from = λ y f k c d z. stuck-over p y f (markable-open l (k r (List·Memᴰ·head refl))) c d (z r (List·Memᴰ·head refl)) }
 
   passed-leads : {S : Skeleton} {r : ℕ} {rs : List ℕ} → LeadsAll S rs → LeadsAll S (r ∷ rs)
   passed-leads g = record { from = λ y f k c d z. g .from y f (λ q j. k q (List·Memᴰ·tail j)) c d (λ q j. z q (List·Memᴰ·tail j)) }
@@ -85,7 +82,7 @@ module _ (P : List Point) (i t : ℕ) (Z : Element → Type 0) (room : Counts) (
   refined-leads : {S T : Skeleton} {r : ℕ} {rs : List ℕ} → rowIn (S .rows) r .child ≡ 0 → Run S r T → Within room T → LeadsAll T rs → LeadsAll S (r ∷ rs)
   refined-leads {S} {T} {r} {rs} l p v g = record {
     from = λ y f k c d z.
-        let u = run-refined P i t Z p y (omega (arith, v .vertices, small)) (opened l (k r (List·Memᴰ·head refl))) c d (z r (List·Memᴰ·head refl)) in
+        let u = run-refined P i t Z p y (omega (arith, v .vertices, small)) (markable-open l (k r (List·Memᴰ·head refl))) c d (z r (List·Memᴰ·head refl)) in
         later (u .grows) (g .from (u .ready) v (λ q j. markable-later (u .grows) (k q (List·Memᴰ·tail j))) (rw (u .grows .forest) c) (u .inside) (λ q j. rw (u .grows .element q (k q (List·Memᴰ·tail j) .there)) (z q (List·Memᴰ·tail j))));
   }
 

@@ -2,7 +2,7 @@
 use mathlib.Core.Path.{_≡_, refl, sym, ap, _∙_}
 use mathlib.Core.Bool.{Bool, true, not}
 use mathlib.Core.List.{List, List·Memᴰ, List·Nodup}
-use Prim.Native.Nat.{ℕ, zero, suc, _+_, _-_, _*_, _≤_, _<_}
+use Prim.Native.Nat.{ℕ, _+_, _-_, _*_, _≤_, _<_}
 use native.Mathlib.Omega.{arith}
 use borrow.Author.Tests.{eqb-false, ne-eqb, not-true}
 use lib.Dec.{eqb}
@@ -10,10 +10,10 @@ use lib.ListN.{length}
 use Rattle.tables.specs.declared.layout.Counts.{Counts}
 use Rattle.tables.specs.Mesh.{Mesh}
 use Rattle.forest.specs.Element.{Name, Forest, Element, middle, shape}
-use Rattle.intake.specs.Search.{count}
 use Rattle.opening.proofs.laws.Counting.{count-below}
 use Rattle.sound.specs.Sound.{vertices, rows, rowOf, Grown}
 use Rattle.sound.specs.Forest.{forestOf, nameOf, elementOf, SplitOf, splitsIn}
+use Rattle.sound.proofs.laws.Searches.{count-full}
 use Rattle.sound.proofs.laws.Count.{rows-count}
 use Rattle.sound.proofs.laws.Elements.{one-row}
 use Rattle.sound.proofs.laws.Names.{one-vertex}
@@ -31,26 +31,21 @@ record Middle (m : Mesh) (t : ℕ) (x : Name) : Type 0 where
   split : SplitOf m t element
   is : middle (shape (forestOf m t) element) ≡ x
 
-abbrev splitAt : Mesh → ℕ → Bool
-splitAt m q = not (eqb (rowOf m q .child) 0)
-
-count-true : (n : ℕ) → count (λ j. true) n ≡ n
-unfolding count
-count-true zero = refl
-count-true (suc n) = omega (arith, count-true n)
+abbrev isSplit : Mesh → ℕ → Bool
+isSplit m q = not (eqb (rowOf m q .child) 0)
 
 module _ {m : Mesh} {i t : ℕ} (g : Grown m i t) where
   -- ---- no more splits than rows
 
-  split-number : (e : Element) → SplitOf m t e → Numbered (λ a j. elementOf m t j ≡ a) (splitAt m) (rows m) e
+  split-number : (e : Element) → SplitOf m t e → Numbered (λ a j. elementOf m t j ≡ a) (isSplit m) (rows m) e
   split-number e s = record { number = s .row; fits = s .is; below = s .there; holds = rw (ne-eqb _ _ (s .split)) }
 
   splits-few : {es : List Element} → List·Nodup es → ((e : Element) → List·Memᴰ e es → SplitOf m t e) → t + 2 * length es ≤ rows m
   unfolding splitsIn
-  splits-few o h = omega (arith, rows-count g, few (λ a j. elementOf m t j ≡ a) (λ a b j x y. sym x ∙ y) (rows m) o (splitAt m) (λ e k. split-number e (h e k)))
+  splits-few o h = omega (arith, rows-count g, few (λ a j. elementOf m t j ≡ a) (λ a b j x y. sym x ∙ y) (rows m) o (isSplit m) (λ e k. split-number e (h e k)))
 
-  splits-list : Listing (elementOf m t) (splitAt m) (rows m)
-  splits-list = listing (elementOf m t) (splitAt m) (rows m) (one-row g)
+  splits-list : Listing (elementOf m t) (isSplit m) (rows m)
+  splits-list = listing (elementOf m t) (isSplit m) (rows m) (one-row g)
 
   splits-size : rows m ≡ t + 2 * length (splits-list .list)
   unfolding splitsIn
@@ -89,7 +84,7 @@ module _ {m : Mesh} {i t : ℕ} (g : Grown m i t) where
   middles-list = listing midpointName (λ j. true) (vertices m - i) (λ j k a b e. omega (arith, one-vertex g (i + j) (i + k) (omega arith) (omega arith) e))
 
   middles-size : vertices m ≡ i + length (middles-list .list)
-  middles-size = omega (arith, g .parted .vertices-in, middles-list .size, count-true (vertices m - i))
+  middles-size = omega (arith, g .parted .vertices-in, middles-list .size, count-full (λ j. true) (vertices m - i) (λ k h. refl))
 
   middles-each : (x : Name) → List·Memᴰ x (middles-list .list) → Middle m t x
   middles-each x k =

@@ -1,31 +1,24 @@
 -- The rebuild starts from the mesh that opening gives: it is sound, nothing of it is split, and its roots are those of the damaged tables (02, L13: "an opened mesh").
-use mathlib.Core.Path.{_≡_, refl, sym, ap, _∙_, fun-ext}
+use mathlib.Core.Path.{_≡_, refl, sym, ap, _∙_}
 use mathlib.Core.List.{List, [], _∷_, map}
 use Prim.Native.Nat.{ℕ, _/_, _≤_, _<_}
 use native.Mathlib.Omega.{arith}
-use lib.ListN.{length, getD, take, length-map, List·getD-map}
+use lib.ListN.{length, take, length-map, List·getD-map}
 use lib.Seq.{length-take-le, getD-take, take-take, take-all}
 use Rattle.split.specs.declared.row.Row.{Row}
-use Rattle.split.specs.Split.{three}
-use Rattle.split.specs.Row.{cornersOf}
 use Rattle.tables.specs.Layout.{pointCells, noRow, noRecord}
-use Rattle.tables.specs.Mesh.{Mesh, flat}
+use Rattle.tables.specs.Mesh.{Mesh}
 use Rattle.tables.proofs.laws.View.{length-up-to, length-flat}
 use Rattle.forest.specs.Element.{Element}
 use Rattle.opening.specs.Opening.{openedMesh}
-use Rattle.sound.specs.Sound.{vertices, rows, recordOf, rowOf, childless, vertexCells, Parted, givenPoints, givenElements, Afresh, Grown}
+use Rattle.sound.specs.Sound.{vertices, rows, recordOf, rowOf, childless, Parted, givenPoints, givenElements, Afresh, Grown}
 use Rattle.sound.specs.Forest.{forestOf, SplitOf}
+use Rattle.sound.proofs.laws.Front.{forest-same, afresh-same}
 use Rattle.run.specs.Skeleton.{skeleton, meshed}
 use Rattle.run.specs.Ready.{Ready}
 use Rattle.run.proofs.laws.Points.{points-own}
 use Rattle.salvage_theory.specs.Kept.{Intact}
 use Rattle.salvage_theory.specs.Rebuild.{opened, initials}
-
--- opening reads no first child
-flat-childless : (l : List Row) → flat vertexCells (map childless l) ≡ flat vertexCells l
-unfolding flat
-flat-childless [] = refl
-flat-childless (r ∷ l) = rw (flat-childless l)
 
 map-twice : (l : List Row) → map childless (map childless l) ≡ map childless l
 map-twice [] = refl
@@ -75,18 +68,8 @@ module _ {m : Mesh} {i t : ℕ} (n : Intact m i t) where
   rows-again : map childless (take t (map childless (take t (m .rows)))) ≡ map childless (take t (m .rows))
   rows-again = rw (take-all t (map childless (take t (m .rows))) (omega (arith, opened-rows))) (map-twice (take t (m .rows)))
 
-  points-again : givenPoints base i ≡ givenPoints m i
-  points-again = rw points-are (ap (flat pointCells) (take-take i i (m .points) (omega arith)))
-
-  elements-again : givenElements base t ≡ givenElements m t
-  elements-again = rw (take-all t (map childless (take t (m .rows))) (omega (arith, opened-rows))) (flat-childless (take t (m .rows)))
-
   opened-afresh : Afresh base i t
-  opened-afresh = record {
-    opens = rw (points-again, elements-again) (n .afresh .opens);
-    colours = rw (points-again, elements-again) (n .afresh .colours ∙ sym (take-take i i (m .records) (omega arith)));
-    rows = rw (points-again, elements-again) (n .afresh .rows ∙ sym rows-again);
-  }
+  opened-afresh = afresh-same (rw points-are (take-take i i (m .points) (omega arith))) (take-take i i (m .records) (omega arith)) rows-again (n .afresh)
 
   opened-parted : Parted base i t
   opened-parted = record {
@@ -115,8 +98,5 @@ module _ {m : Mesh} {i t : ℕ} (n : Intact m i t) where
   opened-whole e s = s .split (opened-leaf (s .row) (s .there))
 
   -- the roots are those of the damaged tables
-  root-kept : (k : ℕ) → cornersOf (getD (take t (base .rows)) k noRow) ≡ cornersOf (getD (take t (m .rows)) k noRow)
-  root-kept k = rw (take-all t (map childless (take t (m .rows))) (omega (arith, opened-rows))) (ap cornersOf (List·getD-map childless (take t (m .rows)) k noRow))
-
   pub opened-forest : forestOf base t ≡ forestOf m t
-  opened-forest = λ j. record { top = three; count = t; root = fun-ext root-kept j }
+  opened-forest = forest-same m base t rows-again

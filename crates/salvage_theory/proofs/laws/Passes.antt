@@ -8,40 +8,31 @@ use native.Mathlib.Numerals.{add-one}
 use native.Mathlib.Decide.{ℕ-discrete}
 use native.Mathlib.Omega.{arith}
 use lib.ListN.{length}
-use Rattle.split.specs.Split.{number, at, Side, left, right}
-use Rattle.split.specs.Row.{cornersOf, tagOf}
+use Rattle.split.specs.Split.{Side, left, right}
 use Rattle.split.proofs.laws.Places.{le-or-lt}
-use Rattle.split.proofs.laws.Rows.{vertices-step}
-use Rattle.split.proofs.laws.Children.{far-at, at-new}
 use Rattle.tables.specs.Mesh.{Mesh}
 use Rattle.forest.specs.Element.{Element, el}
 use Rattle.sound.specs.Sound.{rows, rowOf, place, Grown}
+use Rattle.sound.specs.Follows.{splitVertex}
 use Rattle.sound.specs.Forest.{grown, elementOf}
 use Rattle.sound.proofs.laws.Elements.{root-element, one-row}
 use Rattle.sound.proofs.laws.Offspring.{place-below, place-element}
+use Rattle.sound.proofs.laws.Halves.{split-is}
 use Rattle.sound.proofs.laws.Splits.{row-present}
 use Rattle.run.specs.Skeleton.{Skeleton, rowIn}
 use Rattle.run.specs.Run.{RunAll}
 use Rattle.salvage_theory.specs.Kept.{Intact, Follows, Reached, root, child, Kept, Listed, ListedBelow, passed, listed}
 use Rattle.salvage_theory.specs.Rebuild.{opened, meshFrom, find, Rebuilt, passed as left-alone, refined, KeptDeep}
-use Rattle.salvage_theory.specs.Passes.{FollowsAt, middleIn, Flagging, Moved, Placing}
+use Rattle.salvage_theory.specs.Passes.{FollowsAt, Flagging, Moved, Placing}
 use Rattle.salvage_theory.proofs.laws.Names.{Reaching, top, under, reaching, one-element}
 use Rattle.salvage_theory.proofs.laws.Opened.{opened-rows}
 use Rattle.salvage_theory.proofs.laws.Find.{Found, found}
 use Rattle.salvage_theory.proofs.laws.Rebuilt.{Built, kept-finished}
 use Rattle.salvage_theory.proofs.laws.Unique.{listed-lost, lost-listed}
 
--- the vertex of a split stands in the first child at the parent's tag, so it need not be looked for
-follows-vertex : {m : Mesh} {r : ℕ} (f : Follows m r) → f .vertex ≡ middleIn m r
-unfolding middleIn
-follows-vertex {m} {r} f =
-    sym (at-new (cornersOf (rowOf m r)) (f .vertex) left (tagOf (rowOf m r)))
-    ∙ ap (λ c. at c (number (tagOf (rowOf m r)))) (sym (ap cornersOf (f .is left) ∙ vertices-step left (rowOf m r) r (f .vertex)))
-    ∙ far-at (cornersOf (rowOf m (rowOf m r .child))) (tagOf (rowOf m r))
-
--- so a row follows the split table exactly if it does so with that vertex
-pub follows-at : {m : Mesh} {r : ℕ} → Follows m r → FollowsAt m r (middleIn m r)
-follows-at {m} {r} f = subst (FollowsAt m r) (follows-vertex f) (record { later = f .later; both = f .both; there = f .there; ends = f .ends; is = f .is })
+-- a row follows the split table exactly if it does so with the vertex that is read off its first child
+pub follows-at : {m : Mesh} {r : ℕ} → Follows m r → FollowsAt m r (splitVertex m r)
+follows-at {m} {r} f = subst (FollowsAt m r) (sym (split-is m r (f .vertex) (f .is left))) (record { later = f .later; both = f .both; there = f .there; ends = f .ends; is = f .is })
 
 pub at-follows : {m : Mesh} {r v : ℕ} → FollowsAt m r v → Follows m r
 at-follows {v = v} f = record { later = f .later; both = f .both; vertex = v; there = f .there; ends = f .ends; is = f .is }

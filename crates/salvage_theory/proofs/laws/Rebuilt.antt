@@ -5,16 +5,15 @@ use mathlib.Core.Logic.{_↔_, inl, inr}
 use Prim.Native.Nat.{ℕ, suc, _<_}
 use native.Mathlib.Omega.{arith}
 use lib.ListN.{length}
-use Rattle.split.specs.Split.{Side}
 use Rattle.split.proofs.laws.Places.{le-or-lt}
 use Rattle.tables.specs.Mesh.{Mesh}
-use Rattle.forest.specs.Element.{Element, el, depth}
+use Rattle.forest.specs.Element.{Element, depth}
 use Rattle.forest.specs.Closed.{Present, Closed, marked}
 use Rattle.forest.proofs.Forced.{forced-closed, forced-least}
 use Rattle.sound.specs.Sound.{rows}
-use Rattle.sound.specs.Forest.{forestOf, grown, elementOf, SplitOf}
+use Rattle.sound.specs.Forest.{forestOf, elementOf, SplitOf}
 use Rattle.sound.proofs.laws.Placed.{placed}
-use Rattle.sound.proofs.laws.Splits.{splits-closed}
+use Rattle.sound.proofs.laws.Splits.{present-grown, splits-closed}
 use Rattle.run.specs.Skeleton.{Skeleton}
 use Rattle.run.specs.Ready.{Ready}
 use Rattle.run.specs.Run.{RunAll}
@@ -34,9 +33,6 @@ pub record Built (m : Mesh) (i t x : ℕ) (T : Skeleton) : Type 0 where
   pub grows : Grows (meshFrom m i (opened m i t)) (meshFrom m i T) i t
   pub held : (r : ℕ) (e : Element) → r < x → Kept m t r e → SplitOf (meshFrom m i T) t e
   pub inside : Inside (meshFrom m i T) t (Salvaged m t)
-
-present-grown : (m : Mesh) (t : ℕ) (s : Side) (e : Element) → SplitOf m t e → Present (forestOf m t) (SplitOf m t) (grown s e)
-present-grown m t s (el k p) w = w
 
 module _ {m : Mesh} {i t : ℕ} (n : Intact m i t) where
   pub built-forest : {x : ℕ} {T : Skeleton} → Built m i t x T → forestOf (meshFrom m i T) t ≡ forestOf m t

@@ -1,25 +1,23 @@
 -- Of sound tables every row is reached, "sound tables list none and split the same elements" (02, L13).
-use mathlib.Core.Path.{_≡_, refl, sym, ap, subst, _∙_}
+use mathlib.Core.Path.{_≡_, refl, subst}
 use mathlib.Core.List.{[]}
 use mathlib.Core.Logic.{_↔_, Iff·trans, inl, inr}
 use Prim.Native.Nat.{ℕ, zero, suc, _≤_, _<_}
 use native.Mathlib.Omega.{arith}
 use lib.ListN.{length}
-use Rattle.split.specs.declared.row.Ends.{Ends}
-use Rattle.split.specs.Split.{Side, left}
-use Rattle.split.specs.Row.{edgeOf, childOf}
+use Rattle.split.specs.Split.{left}
 use Rattle.split.proofs.laws.Places.{le-or-lt}
 use Rattle.tables.specs.Mesh.{Mesh}
 use Rattle.forest.specs.Element.{Element}
 use Rattle.forest.specs.Closed.{marked}
 use Rattle.forest.proofs.Forced.{forced-least}
-use Rattle.sound.specs.Sound.{vertices, rows, rowOf, childless, place, Records, Grown, Conforming}
+use Rattle.sound.specs.Sound.{vertices, rows, rowOf, Grown, Conforming}
+use Rattle.sound.specs.Follows.{splitVertex}
 use Rattle.sound.specs.Forest.{elementOf, SplitOf}
 use Rattle.sound.proofs.laws.Elements.{root-element, child-element}
-use Rattle.sound.proofs.laws.Offspring.{place-apart, place-below}
+use Rattle.sound.proofs.laws.Halves.{half}
 use Rattle.sound.proofs.laws.Splits.{splits-closed}
 use Rattle.run.specs.Skeleton.{Skeleton}
-use Rattle.run.specs.Run.{recordFor}
 use Rattle.run.proofs.laws.Needs.{split-shallow}
 use Rattle.salvage_theory.specs.Kept.{Intact, Follows, Reached, root, child, KeptIn, Listed, ListedBelow, none, passed}
 use Rattle.salvage_theory.specs.Rebuild.{Salvaged, meshFrom, Rebuilt, KeptDeep}
@@ -46,39 +44,12 @@ module _ {m : Mesh} {i t : ℕ} (g : Grown m i t) where
     afresh = g .afresh;
   }
 
-  -- two midpoints of one edge are one
-  one-middle : (e : Ends) (u v : ℕ) → Records m i u e → Records m i v e → u ≡ v
-  one-middle e u v a b = g .midpoint v (b .midpoint) (b .there) .only u (a .midpoint) (a .there) (ap recordFor (a .ends ∙ sym (b .ends)))
-
-  module _ (q : ℕ) (l : q < rows m) (split : rowOf m q .child ≡ 0 → ⊥) where
-    abbrev c : ℕ
-    c = rowOf m q .child
-
-    -- a child of q by the split table, with its vertex
-    record Offspring (s : Side) : Type 0 where
-      vertex : ℕ
-      middle : Records m i vertex (edgeOf (rowOf m q))
-      is : childless (rowOf m (place s c)) ≡ childOf s (rowOf m q) q vertex
-
-    offspring : (s : Side) → Offspring s
-    offspring s =
-        let b = place-below g q l split s in
-        let w = g .child (place s c) (b .past) (b .there) in
-        let side : s ≡ w .side = place-apart s (w .side) c (w .here ∙ ap (λ (p : ℕ). place (w .side) (rowOf m p .child)) (b .parent)) in
-        record { vertex = w .vertex; middle = rw (b .parent) at (w .middle); is = w .is ∙ rw (← side, b .parent) }
-
-    -- every split row follows the split table
-    pub split-follows : Follows m q
-    split-follows = let p = g .parent q l split in
-        let a = offspring left in
-        record {
-          later = p .later;
-          both = p .both;
-          vertex = a .vertex;
-          there = a .middle .there;
-          ends = a .middle .ends;
-          is = λ s. let b = offspring s in b .is ∙ ap (childOf s (rowOf m q) q) (one-middle (edgeOf (rowOf m q)) (b .vertex) (a .vertex) (b .middle) (a .middle));
-        }
+  -- every split row follows the split table
+  pub split-follows : (q : ℕ) → q < rows m → (rowOf m q .child ≡ 0 → ⊥) → Follows m q
+  split-follows q l split =
+      let p = g .parent q l split in
+      let a = half g q l split left .records in
+      record { later = p .later; both = p .both; vertex = splitVertex m q; there = a .there; ends = a .ends; is = λ s. half g q l split s .is }
 
   reached-upto : (x r : ℕ) → r < x → r < rows m → Reached m t r (elementOf m t r)
   reached-upto zero r h l = absurd (omega arith)

@@ -1,6 +1,6 @@
 -- What opening the initial vertices and roots afresh (01, "Sound tables", clause 3) says of a mesh: its roots stand in the order of Definition 2 for its own colours.
 use mathlib.Core.Path.{_≡_, refl, sym, ap, _∙_}
-use mathlib.Core.Bool.{Bool, true, false, _||_, cond}
+use mathlib.Core.Bool.{Bool, true, false, cond}
 use mathlib.Core.List.{List, map}
 use mathlib.Core.Logic.{inl, inr}
 use Prim.Native.Nat.{ℕ, zero, suc, _+_, _*_, _/_, _≤_, _<_}
@@ -17,43 +17,24 @@ use Rattle.split.proofs.laws.Places.{le-or-lt, less, equal, more, against}
 use Rattle.tables.specs.declared.record.Record.{Record}
 use Rattle.tables.specs.Layout.{noRecord, noRow}
 use Rattle.tables.specs.Mesh.{Mesh}
-use Rattle.tables.proofs.laws.View.{length-up-to, up-to-at}
+use Rattle.tables.proofs.laws.View.{length-up-to, up-to-at, length-flat}
 use Rattle.forest.specs.Start.{moved, arranged, Rising, Started, Coloured}
-use Rattle.intake.specs.declared.answer.Found.{Found}
-use Rattle.intake.specs.declared.answer.Found.the-variants.{At, Nowhere}
-use Rattle.intake.specs.declared.answer.Verdict.{Verdict}
-use Rattle.intake.specs.declared.answer.Verdict.the-variants.{Refused, Passed}
-use Rattle.intake.specs.Search.{first}
-use Rattle.intake.specs.Causes.{wrongInput, wrongLent, noRoom, unusable, missing, vertex, double, same, third}
+use Rattle.intake.specs.declared.answer.Verdict.the-variants.{Passed}
+use Rattle.intake.specs.Causes.{vertex}
 use Rattle.opening.specs.Colours.{colours, colourOf, garish, largest}
 use Rattle.opening.specs.Order.{sorted, given, rootOf}
-use Rattle.intake.specs.Verdict.{when, at as refusedAt, fitting, plain}
-use Rattle.opening.specs.Opening.{late, judged, initial, openedMesh}
+use Rattle.opening.specs.Opening.{judged, initial, openedMesh}
 use Rattle.opening.specs.Scratch.{Plain}
 use Rattle.intake.proofs.laws.Search.{first-none}
 use Rattle.opening.proofs.laws.Passed.{plain-passed}
 use Rattle.opening.proofs.laws.Colours.{largest-none}
 use Rattle.opening.proofs.laws.Proper.{colours-length, colours-at, colours-proper, colours-most, colours-reached}
 use Rattle.opening.proofs.laws.Sorted.{sorted-of, sorted-rising}
-use Rattle.sound.specs.Sound.{rowOf, childless, givenPoints, givenElements, Grown}
+use Rattle.sound.specs.Sound.{rows, rowOf, childless, vertexCells, givenPoints, givenElements, Afresh, Grown}
 use Rattle.sound.specs.Forest.{forestOf, colourIn, largestIn}
+use Rattle.sound.proofs.laws.Tested.{measured, tested}
 
 -- ---- an input that passed
-
-refused : {X : Type 0} {n p : ℕ} → Refused n p ≡ Passed → X
-refused e = let z : _≡_ {A = ℕ} 0 1 = cc in absurd (omega arith)
-
-left-false : (a b : Bool) → (a || b) ≡ false → a ≡ false
-left-false true b h = h
-left-false false b h = refl
-
-when-passed : (b : Bool) (n : ℕ) (next : Verdict) → when b n next ≡ Passed → (b ≡ false) × (next ≡ Passed)
-when-passed true n next e = refused e
-when-passed false n next e = (refl, e)
-
-at-passed : (f : Found) (n : ℕ) (next : Verdict) → refusedAt f n next ≡ Passed → (f ≡ Nowhere) × (next ≡ Passed)
-at-passed (At q) n next e = refused e
-at-passed Nowhere n next e = (refl, e)
 
 -- the elements are plain, and no colour is over 63
 record Taken (vertices : ℕ) (E : List ℕ) : Type 0 where
@@ -61,20 +42,9 @@ record Taken (vertices : ℕ) (E : List ℕ) : Type 0 where
   small : (v : ℕ) → v < vertices → colourOf E v ≤ 63
 
 taken : (F : List Float) (E : List ℕ) (points records rows : ℕ) → judged F E points records rows ≡ Passed → Taken (length F / 3) E
-unfolding judged fitting plain late
 taken F E points records rows h =
-    let (input, h1) = when-passed (wrongInput (length F) (length E) || wrongLent points records rows) 1 _ h in
-    let (room, h2) = when-passed (noRoom (length F / 3) (length E / 4) points records rows) 2 _ h1 in
-    let (usable, h3) = at-passed (first (unusable F) (length F / 3)) 3 _ h2 in
-    let (there, h4) = at-passed (first (missing (length F / 3) E) (length E / 4)) 4 _ h3 in
-    let (single, h5) = at-passed (first (double E) (length E / 4)) 5 _ h4 in
-    let (other, h6) = at-passed (first (same E) (length E / 4)) 6 _ h5 in
-    let (two, h7) = at-passed (first (third E) (length E / 4)) 7 _ h6 in
-    let (plain, h8) = at-passed (first (garish E) (length F / 3)) 8 _ h7 in
-    record {
-      plain = plain-passed (length F) E (left-false _ _ input) there single;
-      small = λ v l. ltb-false 63 (colourOf E v) (first-none (garish E) (length F / 3) plain v l);
-    }
+    let t = tested F E points records rows h in
+    record { plain = plain-passed (length F) E (t .input) (t .there) (t .single); small = λ v l. ltb-false 63 (colourOf E v) (first-none (garish E) (length F / 3) (t .colours) v l) }
 
 -- ---- a root's vertices are the given ones in another order
 
@@ -121,6 +91,12 @@ module _ (F : List Float) (E : List ℕ) (n : ℕ) (e : length F / 3 ≡ n) wher
   rows-at k h = rw e (up-to-at (rootOf (largest (colours E n)) (λ v. getD (colours E n) v 0) E) (length E / 4) k noRow h)
 
 -- ---- the first i vertices and the first t rows
+
+-- opening refuses a mesh without elements, so there is a root
+pub roots-some : {m : Mesh} {i t : ℕ} → Afresh m i t → t ≤ rows m → 1 ≤ t
+roots-some {m} {i} {t} a h =
+    let some = measured _ _ (tested (givenPoints m i) (givenElements m t) _ _ _ (a .opens) .input) .some in
+    omega (arith, some, length-flat vertexCells 4 (λ r. refl) (take t (m .rows)), length-take-le t (m .rows) h)
 
 module _ {m : Mesh} {i t : ℕ} (g : Grown m i t) where
   -- the roots' vertices as opening takes them, and Algorithm 2's colours

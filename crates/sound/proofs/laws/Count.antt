@@ -14,13 +14,9 @@ use Rattle.intake.specs.Search.{count}
 use Rattle.opening.proofs.laws.Counting.{count-same, count-add, count-zero}
 use Rattle.sound.specs.Sound.{rows, rowOf, place, Grown}
 use Rattle.sound.specs.Forest.{splitsIn}
+use Rattle.sound.proofs.laws.Searches.{count-full}
 
 -- ---- two tests that differ at two places
-
-count-all : (test : ℕ → Bool) (n : ℕ) → ((j : ℕ) → j < n → test j ≡ true) → count test n ≡ n
-unfolding count
-count-all test zero h = refl
-count-all test (suc n) h = rw (count, h n (omega arith), count-all test n (λ j l. h j (omega arith))) (omega arith)
 
 count-pair : (test : ℕ → Bool) (b : Bool) → test 0 ≡ b → test 1 ≡ b → count test 2 ≡ 2 * cond b 1 0
 unfolding count
@@ -103,6 +99,6 @@ module _ {m : Mesh} {i t : ℕ} (g : Grown m i t) where
       omega (
         arith,
         g .parted .rows-in,
-        count-all (λ j. ltb (up j) (rows m)) (rows m - t) (λ j h. lt-ltb (up j) (rows m) (omega (arith, g .child (t + j) (omega arith) (omega arith) .older))),
+        count-full (λ j. ltb (up j) (rows m)) (rows m - t) (λ j h. lt-ltb (up j) (rows m) (omega (arith, g .child (t + j) (omega arith) (omega arith) .older))),
         all-upto (rows m - t) up (λ q. not (eqb (rowOf m q .child) 0)) (rows m) (λ q h. litter q h _ refl),
       )

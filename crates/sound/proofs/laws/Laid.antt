@@ -1,13 +1,23 @@
--- A mesh that is as sound tables hold it, laid into tables that have room for it, is sound.
+-- A mesh that is as sound tables hold it, laid into tables that have room for it, is sound. And how many vertices and rows the mesh of tables has.
 use mathlib.Core.Path.{_≡_}
 use Prim.Native.Nat.{ℕ, _≤_}
 use lib.ListN.{length}
-use Rattle.tables.specs.Layout.{noFloat}
-use Rattle.tables.specs.Mesh.{Mesh, laid}
-use Rattle.tables.proofs.laws.View.{Within, countsOf, length-padded, mesh-laid, laid-unused}
+use Rattle.tables.specs.declared.layout.Counts.{Counts}
+use Rattle.tables.specs.Layout.{recordAt, rowAt, noFloat}
+use Rattle.tables.specs.Mesh.{Lent, Mesh, meshOf, laid}
+use Rattle.tables.proofs.laws.View.{Within, countsOf, length-up-to, length-padded, mesh-laid, laid-unused}
 use Rattle.tables.proofs.laws.Rows as table
-use Rattle.sound.specs.Sound.{Fitting, Grown, Conforming, Sound}
+use Rattle.sound.specs.Sound.{vertices, rows, Fitting, Grown, Conforming, Sound}
 use Rattle.sound.proofs.laws.Tested.{Roomed}
+
+module _ (t : Lent) (c : Counts) where
+  pub mesh-vertices : vertices (meshOf t c) ≡ c .vertices
+  unfolding meshOf
+  mesh-vertices = length-up-to (recordAt (t .records)) (c .vertices)
+
+  pub mesh-rows : rows (meshOf t c) ≡ c .rows
+  unfolding meshOf
+  mesh-rows = length-up-to (rowAt (t .rows)) (c .rows)
 
 module _ (m : Mesh) (lp lv lr : ℕ) (w : Within m lp lv lr) where
   laid-points : length (laid m lp lv lr .points) ≡ lp

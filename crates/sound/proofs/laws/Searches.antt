@@ -42,6 +42,12 @@ count-most test test' (suc n) h = go (test n) (test' n) (h n (omega arith)) (cou
     go false true f c = omega arith
     go false false f c = omega arith
 
+-- a test that holds everywhere is counted everywhere
+pub count-full : (test : ℕ → Bool) (n : ℕ) → ((k : ℕ) → k < n → test k ≡ true) → count test n ≡ n
+unfolding count
+count-full test zero h = refl
+count-full test (suc n) h = rw (count, h n (omega arith), count-full test n (λ k l. h k (omega arith))) (add-one n)
+
 -- ---- four places
 
 pub each-of-four : (P : ℕ → Type 0) → P 0 → P 1 → P 2 → P 3 → (q : ℕ) → q < 4 → P q

@@ -27,7 +27,7 @@ pub record RowFor (m : Mesh) (t : ℕ) (e : Element) : Type 0 where
   pub there : row < rows m
   pub is : elementOf m t row ≡ e
 
-present-grown : (m : Mesh) (t : ℕ) (s : Side) (e : Element) → SplitOf m t e → Present (forestOf m t) (SplitOf m t) (grown s e)
+pub present-grown : (m : Mesh) (t : ℕ) (s : Side) (e : Element) → SplitOf m t e → Present (forestOf m t) (SplitOf m t) (grown s e)
 present-grown m t s (el k p) w = w
 
 module _ {m : Mesh} {i t : ℕ} (g : Grown m i t) where
