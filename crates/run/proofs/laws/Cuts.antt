@@ -23,8 +23,8 @@ use Rattle.sound.proofs.laws.Front.{afresh-same}
 use Rattle.sound.proofs.laws.Placed.{placed, row-distinct}
 use Rattle.run.specs.Run.{withChild}
 
--- m' is m with the leaf s split at the vertex v, which may be new
-pub record Cuts (m m' : Mesh) (i t s v : ℕ) : Type 0 where
+-- the rows of m' are those of m with the leaf s split at the vertex v
+pub record RowsCut (m m' : Mesh) (t s v : ℕ) : Type 0 where
   pub there : s < rows m
   pub leaf : rowOf m s .child ≡ 0
   pub shallow : rowOf m s .depth < 60
@@ -33,13 +33,17 @@ pub record Cuts (m m' : Mesh) (i t s v : ℕ) : Type 0 where
   pub own : rowOf m' s ≡ withChild (rowOf m s) (rows m)
   pub first : rowOf m' (rows m) ≡ firstOf (rowOf m s) s v
   pub second : rowOf m' (rows m + 1) ≡ secondOf (rowOf m s) s v
+  pub kept : map childless (take t (m' .rows)) ≡ map childless (take t (m .rows))
+
+-- m' is m with the leaf s split at the vertex v, which may be new
+pub record Cuts (m m' : Mesh) (i t s v : ℕ) : Type 0 where
+  pub rows : RowsCut m m' t s v
   pub few : vertices m < 4294967295
   pub vertices-kept : vertices m ≤ vertices m'
   pub record-old : (u : ℕ) → u < vertices m → recordOf m' u ≡ recordOf m u
   pub point-old : (u : ℕ) → u < vertices m → pointOf m' u ≡ pointOf m u
   pub points-kept : take i (m' .points) ≡ take i (m .points)
   pub records-kept : take i (m' .records) ≡ take i (m .records)
-  pub rows-kept : map childless (take t (m' .rows)) ≡ map childless (take t (m .rows))
   pub middle : Records m' i v (edgeOf (rowOf m s))
   -- v is the only vertex that may be new, and then no other records the edge
   pub new : (u : ℕ) → vertices m ≤ u → u < vertices m' → u ≡ v
@@ -87,18 +91,18 @@ edge-spread {m} g r h =
 module _ {m m' : Mesh} {i t s v : ℕ} (g : Grown m i t) (c : Cuts m m' i t s v) where
   -- a row of m is the same row of m' but for its first child, and the same where it has one
   pub row-kept : (r : ℕ) → r < rows m → childless (rowOf m' r) ≡ childless (rowOf m r)
-  row-kept r h = elim (ℕ-discrete r s) [ yes e ↦ rw e (ap childless (c .own)) | no d ↦ ap childless (c .old r h d) ]
+  row-kept r h = elim (ℕ-discrete r s) [ yes e ↦ rw e (ap childless (c .rows .own)) | no d ↦ ap childless (c .rows .old r h d) ]
 
   pub split-kept : (r : ℕ) → r < rows m → (rowOf m r .child ≡ 0 → ⊥) → rowOf m' r ≡ rowOf m r
-  split-kept r h d = c .old r h (λ e. d (rw e (c .leaf)))
+  split-kept r h d = c .rows .old r h (λ e. d (rw e (c .rows .leaf)))
 
   pub parent-kept : (r : ℕ) → r < rows m → rowOf m' r .parent ≡ rowOf m r .parent
   parent-kept r h = ap (λ (x : Row). x .parent) (row-kept r h)
 
   -- the child on each side
   pub born : (x : Side) → rowOf m' (place x (rows m)) ≡ childOf x (rowOf m s) s v
-  born left = c .first
-  born right = c .second
+  born left = c .rows .first
+  born right = c .rows .second
 
   born-parent : (x : Side) → rowOf m' (place x (rows m)) .parent ≡ s
   born-parent x = ap (λ (r : Row). r .parent) (born x) ∙ row-step x (rowOf m s) s v .parent
@@ -111,16 +115,16 @@ module _ {m m' : Mesh} {i t s v : ℕ} (g : Grown m i t) (c : Cuts m m' i t s v)
   pub either : (r : ℕ) → r < rows m' → Either r
   either r h = elim (le-or-lt (rows m) r) [
     | inr l ↦ before l
-    | inl l ↦ elim (ℕ-discrete r (rows m)) [ yes e ↦ next left e | no d ↦ next right (omega (arith, c .more)) ]
+    | inl l ↦ elim (ℕ-discrete r (rows m)) [ yes e ↦ next left e | no d ↦ next right (omega (arith, c .rows .more)) ]
   ]
 
   cut-parted : Parted m' i t
   cut-parted =
       let p = g .parted in
-      let edge = edge-spread g s (c .there) in
+      let edge = edge-spread g s (c .rows .there) in
       record {
         vertices-in = omega (arith, p .vertices-in, c .vertices-kept);
-        rows-in = omega (arith, p .rows-in, c .more);
+        rows-in = omega (arith, p .rows-in, c .rows .more);
         initial = λ u h. ap (λ (x : Record). x .second) (c .record-old u (omega (arith, p .vertices-in))) ∙ p .initial u h;
         midpoints = λ u h l e. elim (le-or-lt (vertices m) u) [
           | inr k ↦ p .midpoints u h k (sym (ap (λ (x : Record). x .second) (c .record-old u k)) ∙ e)
@@ -134,8 +138,8 @@ module _ {m m' : Mesh} {i t s v : ℕ} (g : Grown m i t) (c : Cuts m m' i t s v)
       }
     where
       later : (x : Side) (r : ℕ) → r ≡ place x (rows m) → rowOf m' r .parent ≡ r → ⊥
-      later left r q e = omega (arith, c .there, rw (← q) at (born-parent left))
-      later right r q e = omega (arith, c .there, rw (← q) at (born-parent right))
+      later left r q e = omega (arith, c .rows .there, rw (← q) at (born-parent left))
+      later right r q e = omega (arith, c .rows .there, rw (← q) at (born-parent right))
 
   records-stay : {u : ℕ} {e : Ends} → Records m i u e → Records m' i u e
   records-stay {u} w = record { midpoint = w .midpoint; there = omega (arith, w .there, c .vertices-kept); ends = rw (c .record-old u (w .there)) (w .ends) }
@@ -165,14 +169,14 @@ module _ {m m' : Mesh} {i t s v : ℕ} (g : Grown m i t) (c : Cuts m m' i t s v)
       let up = born-parent x in
       let step = row-step x (rowOf m s) s v in
       record {
-        older = rw up (omega (arith, c .there, place-at-least x (rows m)));
-        split = rw (up, c .own) (λ e. omega (arith, c .there));
+        older = rw up (omega (arith, c .rows .there, place-at-least x (rows m)));
+        split = rw (up, c .rows .own) (λ e. omega (arith, c .rows .there));
         side = x;
-        here = rw (up, c .own);
+        here = rw (up, c .rows .own);
         vertex = v;
-        middle = rw up (rw (edge-childless (rowOf m' s) (rowOf m s) (row-kept s (c .there))) (c .middle));
-        is = ap childless (born x) ∙ child-leaf x (rowOf m s) s v ∙ sym (child-childless x (rowOf m' s) (rowOf m s) s v (row-kept s (c .there))) ∙ ap (λ (p : ℕ). childOf x (rowOf m' p) p v) (sym up);
-        shallow = rw (born x) (omega (arith, step .depth, deeper-is (rowOf m s .depth) (omega (arith, c .shallow)), c .shallow));
+        middle = rw up (rw (edge-childless (rowOf m' s) (rowOf m s) (row-kept s (c .rows .there))) (c .middle));
+        is = ap childless (born x) ∙ child-leaf x (rowOf m s) s v ∙ sym (child-childless x (rowOf m' s) (rowOf m s) s v (row-kept s (c .rows .there))) ∙ ap (λ (p : ℕ). childOf x (rowOf m' p) p v) (sym up);
+        shallow = rw (born x) (omega (arith, step .depth, deeper-is (rowOf m s .depth) (omega (arith, c .rows .shallow)), c .rows .shallow));
       }
 
   cut-parent : (q : ℕ) → q < rows m' → (rowOf m' q .child ≡ 0 → ⊥) → Parent m' t q
@@ -181,19 +185,19 @@ module _ {m m' : Mesh} {i t s v : ℕ} (g : Grown m i t) (c : Cuts m m' i t s v)
       go : Either q → Dec (q ≡ s) → Parent m' t q
       go (next x e) w = absurd (d (rw (e, born x) (row-step x (rowOf m s) s v .leaf)))
       go (before l) (yes e) = rw e (record {
-        later = rw (c .own) (c .there);
-        past = rw (c .own) (g .parted .rows-in);
-        both = rw (c .own) (omega (arith, c .more));
-        first = rw (c .own) (born-parent left);
-        second = rw (c .own) (born-parent right);
+        later = rw (c .rows .own) (c .rows .there);
+        past = rw (c .rows .own) (g .parted .rows-in);
+        both = rw (c .rows .own) (omega (arith, c .rows .more));
+        first = rw (c .rows .own) (born-parent left);
+        second = rw (c .rows .own) (born-parent right);
       })
       go (before l) (no n) =
-          let same = c .old q l n in
+          let same = c .rows .old q l n in
           let p = g .parent q l (λ e. d (rw same e)) in
           record {
             later = rw same (p .later);
             past = rw same (p .past);
-            both = rw same (omega (arith, p .both, c .more));
+            both = rw same (omega (arith, p .both, c .rows .more));
             first = rw same (parent-kept (rowOf m q .child) (omega (arith, p .both)) ∙ p .first);
             second = rw same (parent-kept (rowOf m q .child + 1) (p .both) ∙ p .second);
           }
@@ -210,7 +214,7 @@ module _ {m m' : Mesh} {i t s v : ℕ} (g : Grown m i t) (c : Cuts m m' i t s v)
           | inl y ↦ absurd (c .only u (rw (← c .new x y z) y) h l (ap (λ (q : Record). pair (q .first) (q .second)) (sym same ∙ sym e ∙ ap (recordOf m') (c .new x y z)) ∙ c .middle .ends))
         ];
         row = w .row;
-        there = omega (arith, w .there, c .more);
+        there = omega (arith, w .there, c .rows .more);
         split = rw (split-kept (w .row) (w .there) (w .split)) (w .split);
         edge = rw (same, split-kept (w .row) (w .there) (w .split)) (w .edge);
         point = c .point-old u l ∙ w .point ∙ rw (same, c .point-old (recordOf m u .first) (omega (arith, w .rising, w .older)), c .point-old (recordOf m u .second) (omega (arith, w .older)));
@@ -218,7 +222,7 @@ module _ {m m' : Mesh} {i t s v : ℕ} (g : Grown m i t) (c : Cuts m m' i t s v)
 
   midpoint-new : vertices m ≤ v → Midpoint m' i v
   midpoint-new h =
-      let edge = edge-spread g s (c .there) in
+      let edge = edge-spread g s (c .rows .there) in
       let small = ap (λ (x : Ends). x .small) (c .middle .ends) in
       let large = ap (λ (x : Ends). x .large) (c .middle .ends) in
       record {
@@ -229,16 +233,16 @@ module _ {m m' : Mesh} {i t s v : ℕ} (g : Grown m i t) (c : Cuts m m' i t s v)
           | inr y ↦ absurd (c .only x h k y (ap (λ (q : Record). pair (q .first) (q .second)) (sym (c .record-old x y) ∙ e) ∙ c .middle .ends))
         ];
         row = s;
-        there = omega (arith, c .there, c .more);
-        split = rw (c .own) (λ e. omega (arith, c .there));
-        edge = c .middle .ends ∙ sym (edge-childless (rowOf m' s) (rowOf m s) (row-kept s (c .there)));
+        there = omega (arith, c .rows .there, c .rows .more);
+        split = rw (c .rows .own) (λ e. omega (arith, c .rows .there));
+        edge = c .middle .ends ∙ sym (edge-childless (rowOf m' s) (rowOf m s) (row-kept s (c .rows .there)));
         point = c .point-new h;
       }
 
   pub cut-grown : Grown m' i t
   cut-grown = record {
     parted = cut-parted;
-    afresh = afresh-same (c .points-kept) (c .records-kept) (c .rows-kept) (g .afresh);
+    afresh = afresh-same (c .points-kept) (c .records-kept) (c .rows .kept) (g .afresh);
     child = λ r h l. elim (either r l) [ before k ↦ child-before r h k | next x e ↦ rw e (child-next x) ];
     parent = cut-parent;
     midpoint = λ u h l. elim (le-or-lt (vertices m) u) [ inr k ↦ midpoint-before u h k | inl k ↦ let e = c .new u k l in rw e (midpoint-new (rw (← e) k)) ];

@@ -85,7 +85,7 @@ module _ {m m' : Mesh} {i t s v : ℕ} (g : Grown m i t) (c : Cuts m m' i t s v)
   elements-kept (suc n) r h l = elim (le-or-lt t r) [
     | inr k ↦ root-element m' t r k ∙ sym (root-element m t r k)
     | inl k ↦ let w = g .child r k l in
-        let l' : r < rows m' = omega (arith, c .more) in
+        let l' : r < rows m' = omega (arith, c .rows .more) in
         let w' = after .child r k l' in
         let up = parent-kept g c r l in
         let held = split-kept g c (rowOf m r .parent) (omega (arith, w .older)) (w .split) in
@@ -95,12 +95,12 @@ module _ {m m' : Mesh} {i t s v : ℕ} (g : Grown m i t) (c : Cuts m m' i t s v)
 
   pub cut-grows : Grows m m' i t
   cut-grows = record {
-    more-rows = omega (arith, c .more);
+    more-rows = omega (arith, c .rows .more);
     more-vertices = c .vertices-kept;
     row = row-kept g c;
     split = split-kept g c;
     record-old = c .record-old;
-    forest = forest-same m m' t (c .rows-kept);
+    forest = forest-same m m' t (c .rows .kept);
     colour = colour-kept;
     largest = largest-kept;
     name = λ u h. names-kept (vertices m) u h h;

@@ -35,8 +35,8 @@ use Rattle.run.proofs.laws.Patched.{Remains, Born, Patched, patched-non
 
 ripe-after : {m n : Mesh} {i t s v q : ℕ} {e : Ends} → Cuts m n i t s v → (q ≡ s → ⊥) → Ripe m e q → Ripe n e q
 ripe-after {q = q} c d r =
-    let same = c .old q (r .there) d in
-    record { there = omega (arith, r .there, c .more); leaf = rw same (r .leaf); shallow = rw same (r .shallow); edge = rw same (r .edge) }
+    let same = c .rows .old q (r .there) d in
+    record { there = omega (arith, r .there, c .rows .more); leaf = rw same (r .leaf); shallow = rw same (r .shallow); edge = rw same (r .edge) }
 
 cut-rest : (ss : List ℕ) {m : Mesh} {i t v : ℕ} {e : Ends} → Once ss → Grown m i t → vertices m < 4294967295 → Records m i v e → ((s : ℕ) → List·Memᴰ s ss → Ripe m e s) → Patched m (with m (cutAll v (m .rows) ss)) i t v ss
 unfolding cutAll

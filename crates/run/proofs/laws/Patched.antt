@@ -54,15 +54,15 @@ patched-none {m} {i} {t} v g = record {
 
 module _ {m n m' : Mesh} {i t s v : ℕ} {ss : List ℕ} (g : Grown m i t) (c : Cuts m n i t s v) (p : Patched n m' i t v ss) (once : List·Memᴰ s ss → ⊥) (old : (q : ℕ) → List·Memᴰ q ss → q < rows m) where
   own-split : rowOf n s .child ≡ 0 → ⊥
-  own-split e = omega (arith, c .there, ap (λ (r : Row). r .child) (c .own), e)
+  own-split e = omega (arith, c .rows .there, ap (λ (r : Row). r .child) (c .rows .own), e)
 
   same-listed : (q : ℕ) → List·Memᴰ q ss → rowOf n q ≡ rowOf m q
-  same-listed q k = c .old q (old q k) (λ e. once (rw (← e) k))
+  same-listed q k = c .rows .old q (old q k) (λ e. once (rw (← e) k))
 
   remaining : (q : ℕ) → q < rows m' → Remains n ss q → Remains m (s ∷ ss) q ⊎ Born m m' v (s ∷ ss) q
   remaining q h r = elim (either g c q (r .there)) [
     | before l ↦ let d : q ≡ s → ⊥ = λ e. own-split (rw (← e) (r .leaf)) in
-        inl (record { there = l; leaf = rw (← c .old q l d) (r .leaf); other = λ k. elim (List·Memᴰ·cases-cons k) [ inl e ↦ d e | inr j ↦ r .other j ] })
+        inl (record { there = l; leaf = rw (← c .rows .old q l d) (r .leaf); other = λ k. elim (List·Memᴰ·cases-cons k) [ inl e ↦ d e | inr j ↦ r .other j ] })
     | next x e ↦ inr (record { parent = s; listed = List·Memᴰ·head refl; side = x; corners = ap cornersOf (p .grows .row q (r .there)) ∙ rw e (ap cornersOf (born g c x)) })
   ]
 
@@ -73,10 +73,10 @@ module _ {m n m' : Mesh} {i t s v : ℕ} {ss : List ℕ} (g : Grown m i t) (c : 
   patched-cut = record {
     grown = p .grown;
     grows = grows-on (cut-grows g c) (p .grows);
-    size = omega (arith, p .size, c .more);
+    size = omega (arith, p .size, c .rows .more);
     leaves = λ q h l. elim (p .leaves q h l) [ inl r ↦ remaining q h r | inr b ↦ inr (carried q b) ];
     gone = λ q k. elim (List·Memᴰ·cases-cons k) [
-      | inl e ↦ rw e (λ z. own-split (rw (← p .grows .split s (omega (arith, c .there, c .more)) own-split) z))
+      | inl e ↦ rw e (λ z. own-split (rw (← p .grows .split s (omega (arith, c .rows .there, c .rows .more)) own-split) z))
       | inr j ↦ p .gone q j
     ];
     splits = λ q h d. elim (p .splits q h d) [
@@ -87,5 +87,5 @@ module _ {m n m' : Mesh} {i t s v : ℕ} {ss : List ℕ} (g : Grown m i t) (c : 
     where
       go : (q : ℕ) → Split n q → Either g c q → Dec (q ≡ s) → Split m q ⊎ List·Memᴰ q (s ∷ ss)
       go q w k (yes e) = inr (List·Memᴰ·head e)
-      go q w (before l) (no d) = inl (record { there = l; split = λ z. w .split (rw (c .old q l d) z) })
+      go q w (before l) (no d) = inl (record { there = l; split = λ z. w .split (rw (c .rows .old q l d) z) })
       go q w (next x e) (no d) = absurd (w .split (rw (e, born g c x) (row-step x (rowOf m s) s v .leaf)))

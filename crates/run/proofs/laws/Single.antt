@@ -9,13 +9,14 @@ use Rattle.split.specs.declared.row.Row.{Row}
 use Rattle.split.specs.declared.row.Ends.{Ends}
 use Rattle.split.specs.declared.point.Point.{Point}
 use Rattle.split.specs.Row.{edgeOf}
+use Rattle.tables.specs.declared.record.Record.{Record}
 use Rattle.tables.specs.Layout.{noPoint, noRecord}
 use Rattle.tables.specs.Mesh.{Mesh}
 use Rattle.sound.specs.Sound.{vertices, rows, rowOf, Records, Grown}
 use Rattle.run.specs.Skeleton.{Skeleton, meshed}
 use Rattle.run.specs.Ready.{Ready, Growing}
 use Rattle.run.specs.Run.{cut, recordFor}
-use Rattle.run.proofs.laws.Cuts.{Cuts, edge-spread}
+use Rattle.run.proofs.laws.Cuts.{RowsCut, Cuts, edge-spread}
 use Rattle.run.proofs.laws.Listed.{append-first, cut-length, cut-old, cut-own, cut-first, cut-second, cut-kept}
 use Rattle.run.proofs.laws.Points.{halfway, points-length}
 
@@ -26,14 +27,9 @@ pub record Ripe (m : Mesh) (e : Ends) (s : ℕ) : Type 0 where
   pub shallow : rowOf m s .depth < 60
   pub edge : edgeOf (rowOf m s) ≡ e
 
--- ---- where its edge has its midpoint already
-
--- the same vertices, and the rows W
-abbrev pub with : Mesh → List Row → Mesh
-with m W = record { points = m .points; records = m .records; rows = W }
-
-pub cuts-again : {m : Mesh} {i t v s : ℕ} {e : Ends} → Grown m i t → vertices m < 4294967295 → Records m i v e → Ripe m e s → Cuts m (with m (cut v (m .rows) s)) i t s v
-cuts-again {m} {i} {t} {v} {s} g few w r = record {
+-- its rows, whatever becomes of the vertices
+rows-cut : {m : Mesh} {i t s : ℕ} {e : Ends} (v : ℕ) (P : List Point) (R : List Record) → Grown m i t → Ripe m e s → RowsCut m (record { points = P; records = R; rows = cut v (m .rows) s }) t s v
+rows-cut {m} {t = t} {s = s} v P R g r = record {
   there = r .there;
   leaf = r .leaf;
   shallow = r .shallow;
@@ -42,13 +38,24 @@ cuts-again {m} {i} {t} {v} {s} g few w r = record {
   own = cut-own v (m .rows) s (r .there);
   first = cut-first v (m .rows) s;
   second = cut-second v (m .rows) s;
+  kept = cut-kept v (m .rows) s t (g .parted .rows-in);
+}
+
+-- ---- where its edge has its midpoint already
+
+-- the same vertices, and the rows W
+abbrev pub with : Mesh → List Row → Mesh
+with m W = record { points = m .points; records = m .records; rows = W }
+
+pub cuts-again : {m : Mesh} {i t v s : ℕ} {e : Ends} → Grown m i t → vertices m < 4294967295 → Records m i v e → Ripe m e s → Cuts m (with m (cut v (m .rows) s)) i t s v
+cuts-again {m} {i} {t} {v} {s} g few w r = record {
+  rows = rows-cut v (m .points) (m .records) g r;
   few = few;
   vertices-kept = omega arith;
   record-old = λ u h. refl;
   point-old = λ u h. refl;
   points-kept = refl;
   records-kept = refl;
-  rows-kept = cut-kept v (m .rows) s t (g .parted .rows-in);
   middle = rw (r .edge) (record { midpoint = w .midpoint; there = w .there; ends = w .ends });
   new = λ u h l. absurd (omega arith);
   only = λ u h. absurd (omega (arith, w .there));
@@ -77,21 +84,13 @@ module _ {P : List Point} {i t : ℕ} {S : Skeleton} (y : Growing P i t S) (few 
       let newest = append-first (S .records) (length (S .records)) (recordFor e) noRecord [] refl in
       let spread = rw (r .edge) at (edge-spread g s (r .there)) in
       record {
-        there = r .there;
-        leaf = r .leaf;
-        shallow = r .shallow;
-        more = cut-length _ (S .rows) s;
-        old = cut-old _ (S .rows) s;
-        own = cut-own _ (S .rows) s (r .there);
-        first = cut-first _ (S .rows) s;
-        second = cut-second _ (S .rows) s;
+        rows = rows-cut (length (S .records)) _ _ g r;
         few = omega (arith, few);
         vertices-kept = omega (arith, total);
         record-old = λ u h. List·getD-append (S .records) _ noRecord u h;
         point-old = λ u h. List·getD-append (m .points) _ noPoint u (omega (arith, size));
         points-kept = take-append-le i (m .points) _ (omega (arith, size, g .parted .vertices-in));
         records-kept = take-append-le i (S .records) _ (g .parted .vertices-in);
-        rows-kept = cut-kept _ (S .rows) s t (g .parted .rows-in);
         middle = record { midpoint = g .parted .vertices-in; there = omega (arith, total); ends = rw newest (sym (r .edge)) };
         new = λ u h l. omega (arith, total);
         only = λ u h k l x. free u (record { midpoint = k; there = l; ends = x ∙ r .edge });
