@@ -1,11 +1,8 @@
 -- Which vertices a coarsening drops (02, L5): each vertex of a list in turn, judged on the mesh as those before it left it.
-use mathlib.Core.Path.{_≡_}
-use mathlib.Core.Bool.{Bool, true, false, not, _&&_, cond, _||_}
+use mathlib.Core.Bool.{Bool, false, not, _&&_, cond, _||_}
 use mathlib.Core.List.{List, [], _∷_}
-use Prim.Native.Nat.{ℕ, _+_, _≤_, _<_}
+use Prim.Native.Nat.{ℕ, _+_}
 use lib.Dec.{eqb, leb}
-use Rattle.split.specs.Split.{Holds}
-use Rattle.split.specs.Row.{cornersOf}
 use Rattle.tables.specs.Mesh.{Mesh}
 use Rattle.intake.specs.Search.{any}
 use Rattle.sound.specs.Sound.{rows, rowOf}
@@ -44,13 +41,3 @@ none v = false
 -- what the list drops
 abbrev pub goneBy : Mesh → ℕ → List ℕ → ℕ → Bool
 goneBy m i vs = dropAll m i none vs
-
--- `leafNow`, by cases
-pub data LeafNow (m : Mesh) (gone : ℕ → Bool) (r : ℕ) : Type 0 where
-  childless : rowOf m r .child ≡ 0 → LeafNow m gone r
-  merged : (rowOf m r .child ≡ 0 → ⊥) → gone (splitVertex m r) ≡ true → LeafNow m gone r
-
--- only midpoints are gone, and every row that holds one of them is a leaf now
-pub record Free (m : Mesh) (i : ℕ) (gone : ℕ → Bool) : Type 0 where
-  pub midpoint : (v : ℕ) → gone v ≡ true → i ≤ v
-  pub leaf : (r v : ℕ) → r < rows m → Holds 3 (cornersOf (rowOf m r)) v → gone v ≡ true → LeafNow m gone r

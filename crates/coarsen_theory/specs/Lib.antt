@@ -1,3 +1,4 @@
 pub mod Dropping
+pub mod Free
 pub mod Thinned
 pub mod Worked

@@ -15,7 +15,7 @@ use Rattle.opening.proofs.laws.Counting.{count-below}
 use Rattle.sound.specs.Sound.{vertices, rows, pointOf, recordOf, rowOf, childless, place, Parted, Records, Child, Parent, Midpoint, Grown, Conforming}
 use Rattle.sound.specs.Follows.{splitVertex}
 use Rattle.sound.proofs.laws.Halves.{half, one-middle, parent-there}
-use Rattle.coarsen_theory.specs.Dropping.{Free}
+use Rattle.coarsen_theory.specs.Free.{Free}
 use Rattle.coarsen_theory.specs.Thinned.{stays, keeps, newVertex, newRow, renamed, newChild, thinRow, moved, thinned}
 use Rattle.coarsen_theory.proofs.laws.Sifted.{count-less, count-apart}
 use Rattle.coarsen_theory.proofs.laws.Together.{stays-says, says-stays, kept-holds, still-split, split-kept, parent-stays, parent-kept, children-kept, midpoint-row, parents-stay}

@@ -18,7 +18,8 @@ use Rattle.sound.specs.Follows.{splitVertex}
 use Rattle.sound.proofs.laws.Afresh.{root-below}
 use Rattle.sound.proofs.laws.Searches.{and-both}
 use Rattle.sound.proofs.laws.Halves.{parent-there, child-split, child-from}
-use Rattle.coarsen_theory.specs.Dropping.{leafNow, blocks, droppable, dropOne, dropAll, none, goneBy, LeafNow, childless, merged, Free}
+use Rattle.coarsen_theory.specs.Dropping.{leafNow, blocks, droppable, dropOne, dropAll, none, goneBy}
+use Rattle.coarsen_theory.specs.Free.{LeafNow, childless, merged, Free}
 
 -- ---- tests and what they say
 

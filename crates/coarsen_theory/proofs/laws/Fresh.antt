@@ -13,7 +13,7 @@ use Rattle.tables.specs.Mesh.{Mesh}
 use Rattle.sound.specs.Sound.{vertices, rows, pointOf, recordOf, rowOf, childless, Afresh, Grown}
 use Rattle.sound.proofs.laws.Afresh.{root-below}
 use Rattle.sound.proofs.laws.Front.{afresh-same}
-use Rattle.coarsen_theory.specs.Dropping.{Free}
+use Rattle.coarsen_theory.specs.Free.{Free}
 use Rattle.coarsen_theory.specs.Thinned.{stays, keeps, newVertex, thinRow, thinned}
 use Rattle.coarsen_theory.proofs.laws.Sifted.{count-up}
 use Rattle.coarsen_theory.proofs.laws.Together.{says-stays, initial-stays, root-kept}

@@ -18,7 +18,8 @@ use Rattle.sound.specs.Sound.{vertices, rows, rowOf, place, Grown}
 use Rattle.sound.specs.Follows.{splitVertex}
 use Rattle.sound.proofs.laws.Offspring.{place-below}
 use Rattle.sound.proofs.laws.Searches.{and-both, agree}
-use Rattle.coarsen_theory.specs.Dropping.{leafNow, blocks, droppable, none, LeafNow, childless, Free}
+use Rattle.coarsen_theory.specs.Dropping.{leafNow, blocks, droppable, none}
+use Rattle.coarsen_theory.specs.Free.{LeafNow, childless, Free}
 use Rattle.coarsen_theory.specs.Thinned.{stays, keeps, newVertex, newRow, thinRow, thinned}
 use Rattle.coarsen_theory.proofs.laws.Sifted.{count-apart}
 use Rattle.coarsen_theory.proofs.laws.Free.{leaf-now, now-leaf}

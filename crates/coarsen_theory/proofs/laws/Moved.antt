@@ -15,7 +15,8 @@ use mathlib.Core.Logic.{inl, inr}
 use Rattle.sound.specs.Sound.{vertices, rows, pointOf, recordOf, rowOf, place, Grown}
 use Rattle.sound.specs.Follows.{splitVertex}
 use Rattle.sound.proofs.laws.Searches.{count-full}
-use Rattle.coarsen_theory.specs.Dropping.{leafNow, LeafNow, childless, merged, Free}
+use Rattle.coarsen_theory.specs.Dropping.{leafNow}
+use Rattle.coarsen_theory.specs.Free.{LeafNow, childless, merged, Free}
 use Rattle.coarsen_theory.specs.Thinned.{stays, keeps, newVertex, newRow, newChild, thinRow, moved, thinRecord, thinned}
 use Rattle.coarsen_theory.proofs.laws.Sifted.{Source, count-next, count-up, count-less, count-from, sift-length, sift-at}
 use Rattle.coarsen_theory.proofs.laws.Free.{leaf-now, now-leaf}

@@ -13,7 +13,8 @@ use Rattle.intake.proofs.laws.Search.{any-has, any-none}
 use Rattle.sound.specs.Sound.{rows, rowOf, place, Grown}
 use Rattle.sound.specs.Follows.{splitVertex}
 use Rattle.sound.proofs.laws.Halves.{held-split}
-use Rattle.coarsen_theory.specs.Dropping.{leafNow, blocks, droppable, LeafNow, childless, merged, Free}
+use Rattle.coarsen_theory.specs.Dropping.{leafNow, blocks, droppable}
+use Rattle.coarsen_theory.specs.Free.{LeafNow, childless, merged, Free}
 use Rattle.coarsen_theory.specs.Thinned.{stays, keeps, newRow, newChild}
 use Rattle.coarsen_theory.proofs.laws.Free.{Droppable, now-leaf}
 use Rattle.coarsen_theory.proofs.laws.Together.{kept-holds, children-kept, root-kept, child-keeps, child-at}

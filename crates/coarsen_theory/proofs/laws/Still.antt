@@ -20,7 +20,7 @@ use Rattle.sound.proofs.laws.Offspring.{place-apart}
 use Rattle.sound.proofs.laws.Splits.{splits-closed}
 use Rattle.sound.proofs.laws.Count.{rows-count}
 use Rattle.sound.proofs.laws.Halves.{parent-there}
-use Rattle.coarsen_theory.specs.Dropping.{Free}
+use Rattle.coarsen_theory.specs.Free.{Free}
 use Rattle.coarsen_theory.specs.Thinned.{stays, keeps, newVertex, newRow, thinned, StillSplit}
 use Rattle.coarsen_theory.proofs.laws.Together.{stays-says, says-stays, split-kept, parent-kept, parents-stay}
 use Rattle.coarsen_theory.proofs.laws.Moved.{record-midpoint, row-parent, row-child, row-from, vertex-below, row-below, leaf, parent, Fate, fate, initial-same, midpoint-new, child-new, root-same, open-later}

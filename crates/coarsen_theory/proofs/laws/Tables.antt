@@ -14,7 +14,8 @@ use Rattle.sound.specs.Sound.{vertices, rows, pointOf, Sound}
 use Rattle.sound.proofs.laws.Tested.{Roomed}
 use Rattle.sound.proofs.laws.Laid.{mesh-vertices, mesh-rows, laid-sound}
 use Rattle.sound.proofs.laws.Afresh.{roots-some}
-use Rattle.coarsen_theory.specs.Dropping.{goneBy, Free}
+use Rattle.coarsen_theory.specs.Dropping.{goneBy}
+use Rattle.coarsen_theory.specs.Free.{Free}
 use Rattle.coarsen_theory.specs.Thinned.{stays, keeps, newVertex, newRow, sift, thinRow, thinRecord, thinned}
 use Rattle.coarsen_theory.proofs.laws.Sifted.{count-less}
 use Rattle.coarsen_theory.proofs.laws.Free.{gone-free}

@@ -14,7 +14,7 @@ use Rattle.sound.specs.Follows.{splitVertex}
 use Rattle.sound.proofs.laws.Afresh.{root-below}
 use Rattle.sound.proofs.laws.Searches.{and-both}
 use Rattle.sound.proofs.laws.Halves.{edge-held, half, half-corners, one-middle, held-from, parent-there, child-split, child-from}
-use Rattle.coarsen_theory.specs.Dropping.{LeafNow, childless, merged, Free}
+use Rattle.coarsen_theory.specs.Free.{LeafNow, childless, merged, Free}
 use Rattle.coarsen_theory.specs.Thinned.{stays, keeps}
 
 -- ---- a row is kept exactly if nothing that it holds is gone

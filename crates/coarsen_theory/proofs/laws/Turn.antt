@@ -19,7 +19,8 @@ use Rattle.intake.specs.Search.{count}
 use Rattle.sound.specs.Sound.{vertices, rows, pointOf, recordOf, rowOf, Grown}
 use Rattle.sound.specs.Follows.{splitVertex}
 use Rattle.sound.proofs.laws.Searches.{and-both, agree}
-use Rattle.coarsen_theory.specs.Dropping.{leafNow, droppable, dropOne, none, childless, Free}
+use Rattle.coarsen_theory.specs.Dropping.{leafNow, droppable, dropOne, none}
+use Rattle.coarsen_theory.specs.Free.{childless, Free}
 use Rattle.coarsen_theory.specs.Thinned.{stays, keeps, newVertex, newRow, sift, newChild, thinRow, thinRecord, moved, thinned}
 use Rattle.coarsen_theory.proofs.laws.Sifted.{count-apart}
 use Rattle.coarsen_theory.proofs.laws.Free.{now-leaf, droppable-says, leaf-later}

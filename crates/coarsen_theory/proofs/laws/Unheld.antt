@@ -15,7 +15,7 @@ use Rattle.sound.specs.Sound.{vertices, rows, recordOf, rowOf, place, Grown, Co
 use Rattle.sound.specs.Follows.{splitVertex}
 use Rattle.sound.proofs.laws.Offspring.{place-below}
 use Rattle.sound.proofs.laws.Halves.{half, half-corners, holds-same, one-middle, held-split}
-use Rattle.coarsen_theory.specs.Dropping.{LeafNow, childless, merged, Free}
+use Rattle.coarsen_theory.specs.Free.{LeafNow, childless, merged, Free}
 
 -- two places of a row: one child has what stands at both, or they are the ends of its edge
 data Pairing (g : Tag) (p q : ℕ) : Type 0 where

@@ -12,7 +12,7 @@ use Rattle.run.specs.Run.{Within}
 use Rattle.run.specs.Demand.{OutgrowsIn}
 use Rattle.run.proofs.laws.Refused.{stuck-all-over}
 use Rattle.run.proofs.laws.Sizes.{split-fits, split-outgrows}
-use Rattle.salvage_theory.specs.Kept.{Intact, KeptIn}
+use Rattle.salvage_theory.specs.Kept.{Intact}
 use Rattle.salvage_theory.specs.Rebuild.{Salvaged, initials, Rebuilt, KeptDeep, Stalled, start, stuck}
 use Rattle.salvage_theory.proofs.laws.Opened.{opened-grown, opened-whole, opened-forest}
 use Rattle.salvage_theory.proofs.laws.Rebuilt.{kept-markable, kept-forced, built-closed, built-forest, rebuilt-built, rebuilt-forced}
