@@ -1,6 +1,6 @@
 -- What a call needs (demand 3): the smallest closed set that holds the elements already split and all those marked, and whether depth or room refuses it.
 use mathlib.Core.Path.{_≡_}
-use mathlib.Core.List.{List, List·Memᴰ, List·Nodup}
+use mathlib.Core.List.{List, map, List·Memᴰ, List·Nodup}
 use Prim.Native.Nat.{ℕ, _+_, _*_, _<_}
 use lib.ListN.{length}
 use Rattle.tables.specs.declared.layout.Counts.{Counts}
@@ -36,6 +36,10 @@ pub record MarkedIn (m : Mesh) (t : ℕ) (marks : List ℕ) (e : Element) : Type
   pub row : ℕ
   pub listed : List·Memᴰ row marks
   pub is : elementOf m t row ≡ e
+
+-- the elements of marked rows (demand 3, "taken as elements and not as row numbers")
+abbrev pub markedElements : Mesh → ℕ → List ℕ → List Element
+markedElements m t marks = map (elementOf m t) marks
 
 -- the smallest closed set that holds the elements already split and all those marked (01, "What comes back")
 abbrev pub Needed : Mesh → ℕ → List ℕ → Element → Type 0

@@ -15,11 +15,12 @@ use Rattle.forest.proofs.History.{since-forced, nothing-before}
 use Rattle.sound.specs.Sound.{rowOf, Sound}
 use Rattle.sound.specs.Forest.{forestOf, SplitOf}
 use Rattle.sound.proofs.laws.Splits.{splits-closed}
+use Rattle.run.specs.Demand.{markedElements}
 use Rattle.run.proofs.laws.Calls.{After, after-start, after-call}
 use Rattle.run.proofs.laws.LeafSum.{split-told}
 use Rattle.closure.specs.declared.answer.Refined.the-variants.{Done}
 use Rattle.closure.specs.Refine.{Refines}
-use Rattle.closure.specs.History.{markedBy, Since, opened, started, accepted, refused, History}
+use Rattle.closure.specs.History.{Since, opened, started, accepted, refused, History}
 use Rattle.closure.proofs.laws.Promise.{refused-same}
 use Rattle.closure.proofs.laws.Taken.{taken, sound-mesh, sound-ready, sound-rows}
 use Rattle.closure.proofs.laws.Accepted.{accepted-few, accepted-markable, accepted-mesh, accepted-sound}
@@ -56,7 +57,7 @@ started-held {F} {o} {B} {t} {c} s i r f b = record {
 }
 
 accepted-held : {F : Forest} {o : Counts} {B : Element → Type 0} {t : Lent} {c : Counts} {calls : List (List Element)} {marks : List ℕ} {d : Counts} {n : ℕ} {t' : Lent}
-    → Held F o B t c calls → Refines t c marks (Done d n) t' → Held F o B t' d (markedBy t c (o .rows) marks ∷ calls)
+    → Held F o B t c calls → Refines t c marks (Done d n) t' → Held F o B t' d (markedElements (meshOf t c) (o .rows) marks ∷ calls)
 accepted-held {F} {o} {B} {t} {c} {calls} {marks} {d} {n} {t'} h x =
     let on = accepted-sound (h .sound) x in
     record {
@@ -64,13 +65,13 @@ accepted-held {F} {o} {B} {t} {c} {calls} {marks} {d} {n} {t'} h x =
       initials-are = on .initials ∙ h .initials-are;
       roots-are = on .roots ∙ h .roots-are;
       base = h .base;
-      after = subst (λ (k : ℕ). After (meshOf t' d) k F B (markedBy t c k marks ∷ calls)) (h .roots-are) (further (subst (λ (k : ℕ). After (meshOf t c) k F B calls) (sym (h .roots-are)) (h .after)));
+      after = subst (λ (k : ℕ). After (meshOf t' d) k F B (markedElements (meshOf t c) k marks ∷ calls)) (h .roots-are) (further (subst (λ (k : ℕ). After (meshOf t c) k F B calls) (sym (h .roots-are)) (h .after)));
     }
   where
-    further : After (meshOf t c) (h .sound .roots) F B calls → After (meshOf t' d) (h .sound .roots) F B (markedBy t c (h .sound .roots) marks ∷ calls)
+    further : After (meshOf t c) (h .sound .roots) F B calls → After (meshOf t' d) (h .sound .roots) F B (markedElements (meshOf t c) (h .sound .roots) marks ∷ calls)
     further a =
         let s = h .sound in
-        subst (λ (m : Mesh). After m (s .roots) F B (markedBy t c (s .roots) marks ∷ calls)) (sym (accepted-mesh s x))
+        subst (λ (m : Mesh). After m (s .roots) F B (markedElements (meshOf t c) (s .roots) marks ∷ calls)) (sym (accepted-mesh s x))
         (rw (sound-mesh s) at (after-call (meshOf t c .points) (s .initials) (s .roots) (taken s x .accepts .run) (sound-ready s) (accepted-few s x) (accepted-markable s x) {F = F} {B = B} {calls = calls} (rw (sound-mesh s) a)))
 
 -- the tables stay sound, over the initial vertices and roots of the start

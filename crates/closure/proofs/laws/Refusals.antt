@@ -14,12 +14,12 @@ use Rattle.intake.specs.Search.{first}
 use Rattle.intake.specs.First.{FirstAt, None}
 use Rattle.intake.proofs.laws.First.{found-never, found-one, first-found, found-first, none-first}
 use Rattle.sound.specs.Sound.{Sound}
-use Rattle.run.specs.Demand.{DeepIn, HalvedIn, OutgrowsIn, rows, vertices, Needed, Deep, Outgrows}
+use Rattle.run.specs.Demand.{DeepIn, HalvedIn, OutgrowsIn, rows, vertices, markedElements, Needed, Deep, Outgrows}
 use Rattle.run.proofs.laws.Calls.{needed-called}
 use Rattle.closure.specs.declared.answer.Refined.{Refined}
 use Rattle.closure.specs.declared.answer.Refined.the-variants.{Done, Refused}
 use Rattle.closure.specs.Refine.{absent, roomIn, Engine, OnRoom, outgrown, fits, OnDepth, deep, shallow, OnMarks, missing, present, RefinesBy, unsound, sound}
-use Rattle.closure.specs.History.{markedBy, Since, History, SinceMarks, WithMarks, RefusedExactly}
+use Rattle.closure.specs.History.{Since, History, SinceMarks, WithMarks, RefusedExactly}
 use Rattle.closure.proofs.laws.History.{since-held}
 use Rattle.closure.proofs.laws.Promise.{done-never, judged-by, same-number, same-place}
 
@@ -112,7 +112,7 @@ module _ {E : Engine} {t : Lent} {c : Counts} {marks : List ℕ} {r : Refined} {
 module _ {F : Forest} {o : Counts} {B : Element → Type 0} {t : Lent} {c : Counts} {calls : List (List Element)} (h : Since F o B t c calls) where
   -- what the call needs is what the splits at the start and all marks so far force
   pub since-needed : (marks : List ℕ) (e : Element) → Needed (meshOf t c) (o .rows) marks e ↔ SinceMarks F o B t c calls marks e
-  since-needed marks e = let w = since-held h in Iff·trans (needed-called (w .after) marks e) (since-forced F B (w .base) (markedBy t c (o .rows) marks ∷ calls) e)
+  since-needed marks e = let w = since-held h in Iff·trans (needed-called (w .after) marks e) (since-forced F B (w .base) (markedElements (meshOf t c) (o .rows) marks ∷ calls) e)
 
   module _ {marks : List ℕ} {W : Element → Type 0} (same : (e : Element) → Needed (meshOf t c) (o .rows) marks e ↔ W e) where
     needed-deep : Deep (meshOf t c) (o .rows) marks ↔ DeepIn W

@@ -5,12 +5,11 @@ use mathlib.Core.List.{List}
 use Prim.Native.Nat.{ℕ}
 use lib.ListN.{length}
 use Rattle.tables.specs.declared.layout.Counts.{Counts}
-use Rattle.tables.specs.Layout.{recordAt, rowAt}
 use Rattle.tables.specs.Mesh.{Lent, meshOf}
-use Rattle.tables.proofs.laws.View as view
 use Rattle.intake.specs.declared.answer.Found.the-variants.{Nowhere}
 use Rattle.intake.specs.Search.{first}
 use Rattle.sound.specs.Sound.{vertices, rows, Sound}
+use Rattle.sound.proofs.laws.Laid.{mesh-vertices, mesh-rows}
 use Rattle.run.specs.Skeleton.{skeleton, meshed}
 use Rattle.run.specs.Ready.{Ready}
 use Rattle.run.specs.Run.{Within}
@@ -59,12 +58,10 @@ module _ {t : Lent} {c : Counts} (s : Sound t c) where
   sound-ready = entry-ready s
 
   pub sound-rows : rows (meshOf t c) ≡ c .rows
-  unfolding meshOf
-  sound-rows = view.length-up-to (rowAt (t .rows)) (c .rows)
+  sound-rows = mesh-rows t c
 
   pub sound-vertices : vertices (meshOf t c) ≡ c .vertices
-  unfolding meshOf
-  sound-vertices = view.length-up-to (recordAt (t .records)) (c .vertices)
+  sound-vertices = mesh-vertices t c
 
   pub sound-within : Within (roomIn t) (skeleton (meshOf t c))
   sound-within = record { vertices = rw sound-vertices (s .fitting .vertices-fit); rows = rw sound-rows (s .fitting .rows-fit) }

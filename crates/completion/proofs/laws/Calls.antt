@@ -6,8 +6,9 @@ use Rattle.split.specs.declared.point.Point.{Point}
 use Rattle.forest.specs.Element.{Forest, Element}
 use Rattle.run.specs.Skeleton.{Skeleton, meshed}
 use Rattle.run.specs.Ready.{Ready}
+use Rattle.run.specs.Demand.{markedElements}
 use Rattle.run.proofs.laws.Needs.{AllMarkable}
-use Rattle.run.proofs.laws.Calls.{After, markedElements, after-needed}
+use Rattle.run.proofs.laws.Calls.{After, after-needed}
 use Rattle.completion.specs.Completion.{Completed}
 use Rattle.completion.proofs.laws.Demanded.{completed-finished}
 

@@ -1,6 +1,6 @@
 -- Histories of calls on tables: what is split is what the splits at the start and the calls' marks force (demand 3).
 use mathlib.Core.Path.{_≡_, subst, _∙_}
-use mathlib.Core.List.{List, [], _∷_, map, List·Memᴰ, Memᴰ·map, Memᴰ·of-map}
+use mathlib.Core.List.{List, [], _∷_, List·Memᴰ, Memᴰ·map, Memᴰ·of-map}
 use mathlib.Core.Logic.{_↔_, Iff·trans, inl, inr}
 use Prim.Native.Nat.{ℕ, _<_}
 use lib.ListN.{length}
@@ -15,7 +15,7 @@ use Rattle.sound.specs.Forest.{forestOf, elementOf, SplitOf}
 use Rattle.run.specs.Ready.{Ready}
 use Rattle.run.specs.Skeleton.{Skeleton, meshed}
 use Rattle.run.specs.Run.{RunAll}
-use Rattle.run.specs.Demand.{MarkedIn, Needed}
+use Rattle.run.specs.Demand.{MarkedIn, markedElements, Needed}
 use Rattle.run.proofs.laws.Needs.{AllMarkable}
 use Rattle.run.proofs.laws.Demanded.{run-finished, demanded}
 
@@ -28,10 +28,6 @@ pub record After (m : Mesh) (t : ℕ) (F : Forest) (B : Element → Type 0) (cal
 pub after-start : {m : Mesh} {t : ℕ} {F : Forest} {B : Element → Type 0} → forestOf m t ≡ F → ((e : Element) → SplitOf m t e ↔ B e) → After m t F B []
 unfolding calledSince
 after-start f s = record { forest = f; splits = s }
-
--- the marks of a call, as elements
-abbrev pub markedElements : Mesh → ℕ → List ℕ → List Element
-markedElements m t rs = map (elementOf m t) rs
 
 listed-marked : (m : Mesh) (t : ℕ) (rs : List ℕ) (e : Element) → List·Memᴰ e (markedElements m t rs) → MarkedIn m t rs e
 listed-marked m t rs e k = let (r, j, q) = Memᴰ·of-map (elementOf m t) rs k in record { row = r; listed = j; is = q }
