@@ -29,7 +29,7 @@ pub data Since (F : Forest) (o : Counts) (B : Element → Type 0) : Lent → Cou
   refused : {t : Lent} {c given : Counts} {calls : List (List Element)} {marks : List ℕ} {number place : ℕ} {t' : Lent}
       → Since F o B t c calls → Refines t given marks (Refused number place) t' → Since F o B t' c calls
 
--- from an opened mesh on (demand 3)
+-- from an opened mesh on, or from sound tables in which nothing is split (demand 3)
 abbrev pub History : Forest → Counts → Lent → Counts → List (List Element) → Type 0
 History F o t c calls = Since F o Nothing t c calls
 
