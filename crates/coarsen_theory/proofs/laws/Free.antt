@@ -129,6 +129,6 @@ unfolding dropAll
 drop-all-free g [] f = f
 drop-all-free g (v ∷ vs) f = drop-all-free g vs (drop-free g f v)
 
--- what a list drops leaves every row that holds one of them a leaf (theorem 1)
+-- what a list drops leaves every row that holds one of them a leaf (02, L5)
 pub gone-free : {m : Mesh} {i t : ℕ} → Grown m i t → (vs : List ℕ) → Free m i (goneBy m i vs)
 gone-free {m} {i} g vs = drop-all-free g vs (none-free m i)

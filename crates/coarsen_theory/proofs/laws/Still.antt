@@ -111,7 +111,7 @@ module _ {m : Mesh} {i t : ℕ} (g : Grown m i t) {gone : ℕ → Bool} (f : Fre
           is = thin-element (w .row) (w .there) k ∙ w .is;
         }
 
-    -- split after is split before at a vertex that stays (theorem 5)
+    -- split after is split before at a vertex that stays (02, L5: "the elements still split")
     pub thin-splits : (e : Element) → SplitOf after t e ↔ StillSplit m t gone e
     thin-splits e = (split-still e, still-split e)
 

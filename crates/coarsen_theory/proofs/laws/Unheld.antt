@@ -75,6 +75,6 @@ module _ {m : Mesh} {i t : ℕ} (g : Grown m i t) (o : Conforming m i) {gone : �
           not-edge r h s e
           (edge-is (rowOf m r) y x (ap (at (cornersOf (rowOf m r))) (sym q) ∙ c .is) (ap (at (cornersOf (rowOf m r))) (sym p) ∙ a .is) ∙ ends-commute y x)
 
-  -- no row that is a leaf now holds both parents of w (theorem 3)
+  -- no row that is a leaf now holds both parents of w (01, "Sound tables", clause 7)
   pub unheld : (r : ℕ) → r < rows m → LeafNow m gone r → Holds 3 (cornersOf (rowOf m r)) x → Holds 3 (cornersOf (rowOf m r)) y → ⊥
   unheld r h = unheld-from (rows m) r (omega arith) h

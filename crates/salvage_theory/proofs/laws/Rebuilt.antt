@@ -8,8 +8,9 @@ use lib.ListN.{length}
 use Rattle.split.proofs.laws.Places.{le-or-lt}
 use Rattle.tables.specs.Mesh.{Mesh}
 use Rattle.forest.specs.Element.{Element, depth}
-use Rattle.forest.specs.Closed.{Present, Closed, marked}
+use Rattle.forest.specs.Closed.{Present, Closed, marked, Smallest}
 use Rattle.forest.proofs.Forced.{forced-closed, forced-least}
+use Rattle.forest.proofs.Smallest.{smallest-along}
 use Rattle.sound.specs.Sound.{rows}
 use Rattle.sound.specs.Forest.{forestOf, elementOf, SplitOf}
 use Rattle.sound.proofs.laws.Placed.{placed}
@@ -127,3 +128,7 @@ module _ {m : Mesh} {i t : ℕ} (n : Intact m i t) where
     rebuilt-forced {T} p few e =
         let b = rebuilt-built p few in
         (b .inside e, forced-least (rw (built-forest b) at (splits-closed (b .ready .grown) (b .ready .conforming))) (λ a k. b .held (k .row) a (kept-there (k .kept)) (k .kept)) e)
+
+    -- the same in the words of demand 3
+    pub rebuilt-smallest : {T : Skeleton} → Rebuilt m i t (rows m) T → length (T .records) < 4294967295 → Smallest (forestOf m t) (KeptIn m t) (SplitOf (meshFrom m i T) t)
+    rebuilt-smallest p few = smallest-along (rebuilt-forced p few)
