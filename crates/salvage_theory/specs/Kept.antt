@@ -21,14 +21,18 @@ pub record Intact (m : Mesh) (i t : ℕ) : Type 0 where
   pub rows-end : t < rows m → rowOf m t .parent ≡ t → ⊥
   pub afresh : Afresh m i t
 
--- row r has "two later rows as children that follow the split table, depth, label and parent included, m being a vertex that records the edge's ends" (02, L13)
-pub record Follows (m : Mesh) (r : ℕ) : Type 0 where
+-- row r has "two later rows as children that follow the split table, depth, label and parent included", the midpoint being v, "a vertex that records the edge's ends" (02, L13)
+pub record FollowsAt (m : Mesh) (r v : ℕ) : Type 0 where
   pub later : r < rowOf m r .child
   pub both : rowOf m r .child + 1 < rows m
+  pub there : v < vertices m
+  pub ends : pair (recordOf m v .first) (recordOf m v .second) ≡ edgeOf (rowOf m r)
+  pub is : (s : Side) → childless (rowOf m (place s (rowOf m r .child))) ≡ childOf s (rowOf m r) r v
+
+-- with some vertex
+pub record Follows (m : Mesh) (r : ℕ) : Type 0 where
   pub vertex : ℕ
-  pub there : vertex < vertices m
-  pub ends : pair (recordOf m vertex .first) (recordOf m vertex .second) ≡ edgeOf (rowOf m r)
-  pub is : (s : Side) → childless (rowOf m (place s (rowOf m r .child))) ≡ childOf s (rowOf m r) r vertex
+  pub table : FollowsAt m r vertex
 
 -- row r, whose element is e, is a root or a child of a reached row that follows the split table: all its ancestors do (02, L13: "it and all its ancestors", "named by root and sides")
 pub data Reached (m : Mesh) (t : ℕ) : ℕ → Element → Type 0 where

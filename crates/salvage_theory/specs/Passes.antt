@@ -4,22 +4,13 @@ use mathlib.Core.Bool.{Bool, true}
 use Prim.Native.Nat.{ℕ, _+_, _<_}
 use lib.ListN.{length}
 use Rattle.split.specs.Split.{Side}
-use Rattle.split.specs.Row.{pair, edgeOf, childOf}
 use Rattle.tables.specs.Mesh.{Mesh}
 use Rattle.forest.specs.Element.{Element}
-use Rattle.sound.specs.Sound.{vertices, rows, recordOf, rowOf, childless, place}
+use Rattle.sound.specs.Sound.{rowOf, place}
 use Rattle.sound.specs.Forest.{elementOf}
 use Rattle.run.specs.Skeleton.{Skeleton}
 use Rattle.salvage_theory.specs.Kept.{Reached, Kept}
 use Rattle.salvage_theory.specs.Rebuild.{meshFrom}
-
--- row r follows the split table with the vertex v: what there is to test once v is read off the first child
-pub record FollowsAt (m : Mesh) (r v : ℕ) : Type 0 where
-  pub later : r < rowOf m r .child
-  pub both : rowOf m r .child + 1 < rows m
-  pub there : v < vertices m
-  pub ends : pair (recordOf m v .first) (recordOf m v .second) ≡ edgeOf (rowOf m r)
-  pub is : (s : Side) → childless (rowOf m (place s (rowOf m r .child))) ≡ childOf s (rowOf m r) r v
 
 -- row r is reached, as some element
 pub record ReachedRow (m : Mesh) (t r : ℕ) : Type 0 where

@@ -5,9 +5,10 @@ use Prim.Native.Nat.{ℕ, zero, suc, _≤_}
 use native.Mathlib.Omega.{arith}
 use Rattle.split.specs.declared.row.Row.{Row}
 use Rattle.split.specs.declared.row.Ends.{Ends}
-use Rattle.split.specs.Split.{Tag, one, two, three, Side, left, right, Corners, corners, at, far, first, second}
+use Rattle.split.specs.Split.{Tag, one, two, three, Side, left, right, Corners, corners, number, at, far, first, second}
 use Rattle.split.specs.Row.{cornersOf, tagOf, edgeOf, pair, ends, below, firstOf, secondOf, childOf}
 use Rattle.split.proofs.laws.Places.{le-or-lt}
+use Rattle.split.proofs.laws.Children.{far-at}
 use Rattle.split.proofs.laws.Ends.{ends-rising, ends-falling}
 use Rattle.coarsen_theory.specs.Thinned.{renamed}
 
@@ -21,9 +22,7 @@ mapped-at f c (suc (suc zero)) = refl
 mapped-at f c (suc (suc (suc p))) = refl
 
 mapped-far : (f : ℕ → ℕ) (g : Tag) (c : Corners ℕ) → far g (mapped f c) ≡ f (far g c)
-mapped-far f one c = refl
-mapped-far f two c = refl
-mapped-far f three c = refl
+mapped-far f g c = sym (far-at (mapped f c) g) ∙ mapped-at f c (number g) ∙ ap f (far-at c g)
 
 mapped-first : (f : ℕ → ℕ) (g : Tag) (c : Corners ℕ) (v : ℕ) → first g (mapped f c) (f v) ≡ mapped f (first g c v)
 unfolding first

@@ -37,7 +37,7 @@ module _ {m : Mesh} {i t : ℕ} (n : Intact m i t) where
   child-sized : {p r : ℕ} {d e : Element} (s : Side) → Follows m p → r ≡ place s (rowOf m p .child) → e ≡ grown s d → Sized m t p d → Sized m t r e
   child-sized {p} {r} {d} {e} s f h q w =
       let c = child-placed f s in
-      let deep = ap (λ (x : Row). x .depth) (f .is s) ∙ row-step s (rowOf m p) p (f .vertex) .depth in
+      let deep = ap (λ (x : Row). x .depth) (f .table .is s) ∙ row-step s (rowOf m p) p (f .vertex) .depth in
       let few = n .rows-few in
       rw (h, q) (record {
         deep = omega (arith, deep, deeper-is (rowOf m p .depth) (omega (arith, w, c)), w, grown-depth s d);

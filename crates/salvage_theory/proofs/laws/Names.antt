@@ -23,11 +23,11 @@ pub record Placed (m : Mesh) (p r : ℕ) : Type 0 where
   pub parent : rowOf m r .parent ≡ p
 
 pub child-placed : {m : Mesh} {p : ℕ} (f : Follows m p) (s : Side) → Placed m p (place s (rowOf m p .child))
-child-placed {m} {p} f s = record { later = go s .0; there = go s .1; parent = ap (λ (x : Row). x .parent) (f .is s) ∙ row-step s (rowOf m p) p (f .vertex) .parent }
+child-placed {m} {p} f s = record { later = go s .0; there = go s .1; parent = ap (λ (x : Row). x .parent) (f .table .is s) ∙ row-step s (rowOf m p) p (f .vertex) .parent }
   where
     go : (s : Side) → (p < place s (rowOf m p .child)) × (place s (rowOf m p .child) < rows m)
-    go left = omega (arith, f .later, f .both)
-    go right = omega (arith, f .later, f .both)
+    go left = omega (arith, f .table .later, f .table .both)
+    go right = omega (arith, f .table .later, f .table .both)
 
 -- row r is the child on side s of the kept row p, whose element is d
 pub record Under (m : Mesh) (t r : ℕ) (e : Element) : Type 0 where
@@ -61,7 +61,7 @@ kept-parent {m} {t} {r} {k} {s} {p} w = go (reaching w)
 
 -- a kept row has a row after it
 pub kept-there : {m : Mesh} {t r : ℕ} {e : Element} → Kept m t r e → r < rows m
-kept-there k = omega (arith, k .follows .later, k .follows .both)
+kept-there k = omega (arith, k .follows .table .later, k .follows .table .both)
 
 -- ---- a reached element has one row
 

@@ -21,9 +21,9 @@ use Rattle.sound.proofs.laws.Halves.{split-is}
 use Rattle.sound.proofs.laws.Splits.{row-present}
 use Rattle.run.specs.Skeleton.{Skeleton, rowIn}
 use Rattle.run.specs.Run.{RunAll}
-use Rattle.salvage_theory.specs.Kept.{Intact, Follows, Reached, root, child, Kept, Listed, ListedBelow, passed, listed}
+use Rattle.salvage_theory.specs.Kept.{Intact, FollowsAt, Follows, Reached, root, child, Kept, Listed, ListedBelow, passed, listed}
 use Rattle.salvage_theory.specs.Rebuild.{opened, meshFrom, find, Rebuilt, passed as left-alone, refined, KeptDeep}
-use Rattle.salvage_theory.specs.Passes.{FollowsAt, Flagging, Moved, Placing}
+use Rattle.salvage_theory.specs.Passes.{Flagging, Moved, Placing}
 use Rattle.salvage_theory.proofs.laws.Names.{Reaching, top, under, reaching, one-element}
 use Rattle.salvage_theory.proofs.laws.Opened.{opened-rows}
 use Rattle.salvage_theory.proofs.laws.Find.{Found, found}
@@ -32,10 +32,10 @@ use Rattle.salvage_theory.proofs.laws.Unique.{listed-lost, lost-listed}
 
 -- a row follows the split table exactly if it does so with the vertex that is read off its first child
 pub follows-at : {m : Mesh} {r : ℕ} → Follows m r → FollowsAt m r (splitVertex m r)
-follows-at {m} {r} f = subst (FollowsAt m r) (sym (split-is m r (f .vertex) (f .is left))) (record { later = f .later; both = f .both; there = f .there; ends = f .ends; is = f .is })
+follows-at {m} {r} f = subst (FollowsAt m r) (sym (split-is m r (f .vertex) (f .table .is left))) (f .table)
 
 pub at-follows : {m : Mesh} {r v : ℕ} → FollowsAt m r v → Follows m r
-at-follows {v = v} f = record { later = f .later; both = f .both; vertex = v; there = f .there; ends = f .ends; is = f .is }
+at-follows {v = v} f = record { vertex = v; table = f }
 
 -- ---- flags
 

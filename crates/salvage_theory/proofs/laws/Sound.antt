@@ -27,7 +27,7 @@ use Rattle.salvage_theory.proofs.laws.Unique.{listed-lost}
 
 -- a row that follows the split table has children
 follows-split : {m : Mesh} {r : ℕ} → Follows m r → rowOf m r .child ≡ 0 → ⊥
-follows-split f e = omega (arith, f .later)
+follows-split f e = omega (arith, f .table .later)
 
 module _ {m : Mesh} {i t : ℕ} (g : Grown m i t) where
   -- the leading vertices and roots of sound tables are intact
@@ -49,7 +49,7 @@ module _ {m : Mesh} {i t : ℕ} (g : Grown m i t) where
   split-follows q l split =
       let p = g .parent q l split in
       let a = half g q l split left .records in
-      record { later = p .later; both = p .both; vertex = splitVertex m q; there = a .there; ends = a .ends; is = λ s. half g q l split s .is }
+      record { vertex = splitVertex m q; table = record { later = p .later; both = p .both; there = a .there; ends = a .ends; is = λ s. half g q l split s .is } }
 
   reached-upto : (x r : ℕ) → r < x → r < rows m → Reached m t r (elementOf m t r)
   reached-upto zero r h l = absurd (omega arith)
