@@ -1,3 +1,4 @@
 pub mod Pushed
 pub mod Walk
 pub mod Index
+pub mod Clearing

@@ -2,7 +2,7 @@
 // It lies in one lent table: the heads, one for each key below `base`, and from `base` on the links, one for each place.
 
 ghost use mathlib.Core.Path.{_≡_};
-ghost use lib.ListN.{set};
+ghost use lib.ListN.{length, set, replicate};
 ghost use Rattle.chain.specs.Chain.{pushed};
 
 // Appends place i with its key. What does not fit changes nothing.
@@ -38,5 +38,17 @@ pub fn put(table: &mut [u32], i: usize, x: u32)
 {
     if i < table.len() {
         table[i] = x;
+    }
+}
+
+// Sets every number of a table, or of a part of one, to zero.
+pub fn clear(table: &mut [u32])
+    ensures { λ _. ⌜ now (table .exit) ≡ replicate (length (now (table .entry))) 0 ⌝ }
+{
+    let end = table.len();
+    let mut i = 0usize;
+    while i < end {
+        table[i] = 0;
+        i += 1;
     }
 }

@@ -4,3 +4,4 @@ pub mod Loop
 pub mod Usable
 pub mod Verdicts
 pub mod First
+pub mod Grid

@@ -1,4 +1,5 @@
 pub mod Search
+pub mod Cells
 pub mod Causes
 pub mod Verdict
 pub mod First

@@ -9,6 +9,7 @@ use Rattle.intake.specs.declared.answer.Found.the-variants.{At, Nowhere}
 use Rattle.intake.specs.declared.answer.Verdict.{Verdict}
 use Rattle.intake.specs.declared.answer.Verdict.the-variants as verdict
 use Rattle.intake.specs.Search.{first}
+use Rattle.intake.specs.Cells.{Cells}
 use Rattle.intake.specs.Causes.{wrongInput, wrongLent, noRoom, unusable, missing, double}
 
 -- refused by this number where the cause is present, else what comes next
@@ -22,8 +23,8 @@ at (At p) n next = verdict.Refused n p
 at Nowhere n next = next
 
 -- tests 3 to 5, on coordinates and vertex numbers, and then the rest
-unfoldable pub plain : List Float → List ℕ → Verdict → Verdict
-plain F E next = at (first (unusable F) (length F / 3)) 3 (at (first (missing (length F / 3) E) (length E / 4)) 4 (at (first (double E) (length E / 4)) 5 next))
+unfoldable pub plain : List Float → Cells → Verdict → Verdict
+plain F E next = at (first (unusable F) (length F / 3)) 3 (at (first (missing (length F / 3) E) (E .count)) 4 (at (first (double E) (E .count)) 5 next))
 
 -- tests 1 and 2, on lengths alone, and then the rest
 unfoldable pub fitting : ℕ → ℕ → ℕ → ℕ → ℕ → Verdict → Verdict

@@ -2,6 +2,7 @@
 pub mod answer;
 mod coordinates;
 mod elements;
+pub mod grid;
 mod lengths;
 
 use crate::answer::Found;
@@ -9,11 +10,13 @@ use crate::answer::Verdict;
 use crate::coordinates::first_unusable;
 use crate::elements::first_double;
 use crate::elements::first_missing;
+use crate::grid::Grid;
 use crate::lengths::input_wrong;
 use crate::lengths::lent_wrong;
 use crate::lengths::too_many;
 ghost use mathlib.Core.Path.{_≡_};
 ghost use Rattle.intake.specs.declared.answer.Verdict.the-variants.{Passed};
+ghost use Rattle.intake.specs.Cells.{cells};
 ghost use Rattle.intake.specs.Verdict.{at, fitting, plain};
 
 // Refused by this number at the place found, else the verdict of what comes next.
@@ -58,12 +61,12 @@ pub fn judge_lengths(
 }
 
 // Numbers 3 to 5.
-pub fn judge_numbers(coordinates: &[f64], elements: &[u32]) -> Verdict
-    ensures { λ r. ⌜ r ≡ plain (now (coordinates .entry)) (now (elements .entry)) Passed ⌝ }
+pub fn judge_numbers(coordinates: &[f64], elements: &[u32], grid: Grid) -> Verdict
+    ensures { λ r. ⌜ r ≡ plain (now (coordinates .entry)) (cells (now (elements .entry)) grid) Passed ⌝ }
 {
     let unusable = first_unusable(coordinates);
-    let missing = first_missing(elements, coordinates.len() / 3);
-    let double = first_double(elements);
+    let missing = first_missing(elements, grid, coordinates.len() / 3);
+    let double = first_double(elements, grid);
     let last = verdict_at(double, 5, Verdict::Passed);
     let then = verdict_at(missing, 4, last);
     verdict_at(unusable, 3, then)

@@ -1,10 +1,10 @@
 // Listing sound tables: the leaves are counted before anything is stored, since a refused call leaves both lists as at entry.
 use crate::answer::Listed;
 use crate::roots::list_roots;
+use chain::clear;
 ghost use mathlib.Core.Path.{_≡_};
 ghost use mathlib.Core.Bool.{cond};
 ghost use Prim.Native.Nat.{_≤_};
-ghost use lib.ListN.{length, replicate};
 ghost use Rattle.intake.specs.Search.{count};
 ghost use Rattle.leaves.specs.Lists.{Accepts, OnRoom};
 ghost use Rattle.leaves.specs.Walk.{rowsOf, leafAt, Listable, Roomy};
@@ -31,17 +31,6 @@ fn count_leaves(rows: &[u32], n: usize) -> usize
         k += 1;
     }
     size
-}
-
-fn clear(list: &mut [u32])
-    ensures { λ _. ⌜ now (list .exit) ≡ replicate (length (now (list .entry))) 0 ⌝ }
-{
-    let n = list.len();
-    let mut i = 0usize;
-    while i < n {
-        list[i] = 0;
-        i += 1;
-    }
 }
 
 // Lists all leaves where both lists have room for them, with zeros after them.

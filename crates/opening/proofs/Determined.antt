@@ -1,4 +1,4 @@
--- Two outcomes that meet the promise of opening are equal: the answer, and each of the three lent tables; and so are two answers whether tables agree with opening. `Learnt` is the promise itself, as the check reads it off the function's contract.
+-- Two outcomes that meet the promise of opening are equal: the answer, and each of the three lent tables; and so are two answers whether tables agree with opening, and the memory lent for it. `Learnt` is the promise itself, as the check reads it off the function's contract.
 use mathlib.Core.Path.{_≡_, sym, ap, _∙_}
 use denote.Ref.{now}
 use Rattle.tables.specs.Mesh.{Lent}
@@ -24,5 +24,5 @@ open-records-determined κs a r r' s s' p q = ap (λ (t : Lent). t .records) (p 
 pub open-rows-determined : (κs : _) (a : _) (r r' : _) (s s' : _) → opening.Learnt κs a r s → opening.Learnt κs a r' s' → now (s .1 .1 .1 .1 .0) ≡ now (s' .1 .1 .1 .1 .0)
 open-rows-determined κs a r r' s s' p q = ap (λ (t : Lent). t .rows) (p .leaves ∙ sym (q .leaves))
 
-pub agrees-determined : (κs : _) (a : _) (r r' : _) (s s' : _) → agreeing.Learnt κs a r s → agreeing.Learnt κs a r' s' → r ≡ r'
-agrees-determined κs a r r' s s' p q = p ∙ sym q
+pub agrees-determined : (κs : _) (a : _) (r r' : _) (s s' : _) → agreeing.Learnt κs a r s → agreeing.Learnt κs a r' s' → (r ≡ r') × (now (s .1 .1 .1 .1 .0) ≡ now (s' .1 .1 .1 .1 .0))
+agrees-determined κs a r r' s s' p q = (p .0 ∙ sym (q .0), p .1 ∙ sym (q .1))

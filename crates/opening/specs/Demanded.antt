@@ -11,6 +11,7 @@ use Rattle.tables.specs.declared.layout.Counts.{Counts}
 use Rattle.tables.specs.Layout.{pointAt, recordAt, rowAt}
 use Rattle.tables.specs.Mesh.{Lent, Unused}
 use Rattle.forest.specs.Start.{Started}
+use Rattle.intake.specs.Cells.{Cells, quads}
 use Rattle.opening.specs.Order.{given, root}
 use Rattle.opening.specs.Opening.{initial}
 use Rattle.opening.specs.Greedy.{Greedy}
@@ -23,7 +24,7 @@ pub record Largest (n : ℕ) (colour : ℕ → ℕ) (N : ℕ) : Type 0 where
   pub reached : colour vertex ≡ N
 
 -- r is element k in the order of Definition 2: its vertices sorted by colour, the last in front exactly if its colour is N; tag 3, a root, a leaf of depth 0
-pub record AsRoot (E : List ℕ) (N : ℕ) (colour : ℕ → ℕ) (k : ℕ) (r : Row) : Type 0 where
+pub record AsRoot (E : Cells) (N : ℕ) (colour : ℕ → ℕ) (k : ℕ) (r : Row) : Type 0 where
   pub of : (v : ℕ) → Holds 3 (cornersOf r) v → Holds 3 (given E k) v
   pub has : (v : ℕ) → Holds 3 (given E k) v → Holds 3 (cornersOf r) v
   pub order : Started three N colour (cornersOf r)
@@ -35,9 +36,9 @@ pub record OpenedAsDemanded (F : List Float) (E : List ℕ) (c : Counts) (t : Le
   pub rows : c .rows ≡ length E / 4
   pub point : (v : ℕ) → v < c .vertices → pointAt (t .points) v ≡ pointAt F v
   pub colour : ℕ → ℕ
-  pub greedy : Greedy E (c .vertices) colour
+  pub greedy : Greedy (quads E) (c .vertices) colour
   pub record-is : (v : ℕ) → v < c .vertices → recordAt (t .records) v ≡ initial (colour v)
   pub largest : ℕ
   pub largest-is : Largest (c .vertices) colour largest
-  pub row : (k : ℕ) → k < c .rows → AsRoot E largest colour k (rowAt (t .rows) k)
+  pub row : (k : ℕ) → k < c .rows → AsRoot (quads E) largest colour k (rowAt (t .rows) k)
   pub unused : Unused t c

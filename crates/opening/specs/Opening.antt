@@ -13,32 +13,33 @@ use Rattle.intake.specs.declared.answer.Verdict.the-variants as verdict
 use Rattle.opening.specs.declared.answer.Opened.{Opened}
 use Rattle.opening.specs.declared.answer.Opened.the-variants as opened
 use Rattle.intake.specs.Search.{first}
+use Rattle.intake.specs.Cells.{Cells, quads}
 use Rattle.intake.specs.Causes.{same, third}
 use Rattle.intake.specs.Verdict.{at, plain, fitting}
 use Rattle.opening.specs.Colours.{colours, garish, largest}
 use Rattle.opening.specs.Order.{rootOf}
 
 -- tests 6 to 8, through the index
-unfoldable pub late : List ℕ → ℕ → Verdict
-late E vertices = at (first (same E) (length E / 4)) 6 (at (first (third E) (length E / 4)) 7 (at (first (garish E) vertices) 8 verdict.Passed))
+unfoldable pub late : Cells → ℕ → Verdict
+late E vertices = at (first (same E) (E .count)) 6 (at (first (third E) (E .count)) 7 (at (first (garish E) vertices) 8 verdict.Passed))
 
 -- all tests in their order
 unfoldable pub judged : List Float → List ℕ → ℕ → ℕ → ℕ → Verdict
-judged F E points records rows = fitting (length F) (length E) points records rows (plain F E (late E (length F / 3)))
+judged F E points records rows = fitting (length F) (length E) points records rows (plain F (quads E) (late (quads E) (length F / 3)))
 
 -- an initial vertex: its colour, then 4294967295 (01, "The tables")
 abbrev pub initial : ℕ → Record
 initial colour = record { first = colour; second = 4294967295 }
 
 -- the opened mesh: the points as given, the colours of Algorithm 2, the rows of Definition 2
-unfoldable pub openedMesh : List Float → List ℕ → Mesh
+unfoldable pub openedMesh : List Float → Cells → Mesh
 openedMesh F E =
     let vertices = length F / 3 in
     let cs = colours E vertices in
     record {
       points = upTo (pointAt F) vertices;
       records = upTo (λ v. initial (getD cs v 0)) vertices;
-      rows = upTo (rootOf (largest cs) (λ v. getD cs v 0) E) (length E / 4);
+      rows = upTo (rootOf (largest cs) (λ v. getD cs v 0) E) (E .count);
     }
 
 -- the answer: the counts of the mesh, or the refusal
@@ -59,7 +60,7 @@ report verdict.Passed vertices rows = done (record { vertices = vertices; rows =
 -- the tables: as at entry where refused, else the mesh and zeros after it, to the end of the lent tables
 abbrev pub tables : Verdict → List Float → List ℕ → Lent → Lent
 tables (verdict.Refused n p) F E t = t
-tables verdict.Passed F E t = laid (openedMesh F E) (length (t .points)) (length (t .records)) (length (t .rows))
+tables verdict.Passed F E t = laid (openedMesh F (quads E)) (length (t .points)) (length (t .records)) (length (t .rows))
 
 abbrev pub verdictOn : List Float → List ℕ → Lent → Verdict
 verdictOn F E t = judged F E (length (t .points)) (length (t .records)) (length (t .rows))

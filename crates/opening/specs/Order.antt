@@ -1,11 +1,11 @@
 -- The row of an element (000, Definition 2; 01, "Opening").
 use mathlib.Core.Bool.{cond}
-use mathlib.Core.List.{List}
 use Prim.Native.Nat.{ℕ}
 use lib.Dec.{ltb}
 use Rattle.split.specs.declared.row.Row.{Row}
 use Rattle.split.specs.Split.{three, Corners, corners}
 use Rattle.forest.specs.Start.{arranged}
+use Rattle.intake.specs.Cells.{Cells}
 use Rattle.intake.specs.Causes.{vertex}
 
 -- two places brought into the order of their colours
@@ -25,7 +25,7 @@ inner f w = corners (w .v0) (lower f (w .v1) (w .v2)) (upper f (w .v1) (w .v2)) 
 unfoldable pub sorted : (ℕ → ℕ) → Corners ℕ → Corners ℕ
 sorted f w = inner f (outer f (lower f (w .v0) (w .v1)) (upper f (w .v0) (w .v1)) (lower f (w .v2) (w .v3)) (upper f (w .v2) (w .v3)))
 
-abbrev pub given : List ℕ → ℕ → Corners ℕ
+abbrev pub given : Cells → ℕ → Corners ℕ
 given E k = corners (vertex E k 0) (vertex E k 1) (vertex E k 2) (vertex E k 3)
 
 -- a root: tag 3, its own row as parent, a leaf of depth 0
@@ -33,5 +33,5 @@ abbrev pub root : ℕ → Corners ℕ → Row
 root k c = record { v0 = c .v0; v1 = c .v1; v2 = c .v2; v3 = c .v3; tag = 3; parent = k; child = 0; depth = 0 }
 
 -- element k becomes row k: its vertices sorted by colour, the last in front exactly if its colour is N
-unfoldable pub rootOf : ℕ → (ℕ → ℕ) → List ℕ → ℕ → Row
+unfoldable pub rootOf : ℕ → (ℕ → ℕ) → Cells → ℕ → Row
 rootOf N colour E k = root k (arranged three N colour (sorted colour (given E k)))

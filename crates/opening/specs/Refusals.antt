@@ -5,6 +5,7 @@ use Prim.Native.Nat.{ℕ, _/_}
 use lib.ListN.{length}
 use lib.Ieee.{Float}
 use Rattle.tables.specs.Mesh.{Lent}
+use Rattle.intake.specs.Cells.{quads}
 use Rattle.intake.specs.Causes.{wrongInput, wrongLent, noRoom, unusable, missing, double, same, third}
 use Rattle.opening.specs.Colours.{garish}
 use Rattle.intake.specs.First.{FirstAt, None}
@@ -20,14 +21,15 @@ abbrev pub causes : List Float → List ℕ → ℕ → ℕ → ℕ → List Cau
 causes F E points records rows =
     let vertices = length F / 3 in
     let elements = length E / 4 in
+    let C = quads E in
     record { number = 1; places = 1; present = λ p. wrongInput (length F) (length E) || wrongLent points records rows }
     ∷ record { number = 2; places = 1; present = λ p. noRoom vertices elements points records rows }
     ∷ record { number = 3; places = vertices; present = unusable F }
-    ∷ record { number = 4; places = elements; present = missing vertices E }
-    ∷ record { number = 5; places = elements; present = double E }
-    ∷ record { number = 6; places = elements; present = same E }
-    ∷ record { number = 7; places = elements; present = third E }
-    ∷ record { number = 8; places = vertices; present = garish E }
+    ∷ record { number = 4; places = elements; present = missing vertices C }
+    ∷ record { number = 5; places = elements; present = double C }
+    ∷ record { number = 6; places = elements; present = same C }
+    ∷ record { number = 7; places = elements; present = third C }
+    ∷ record { number = 8; places = vertices; present = garish C }
     ∷ []
 
 -- the causes for lent tables t

@@ -1,8 +1,10 @@
 // The index of corner slots: place 4 k + q has the key vertex q of element k. It is a table of the heads and then the links. Beside it stands how often each vertex is used so far.
 
-use chain::wide;
+use intake::grid::Grid;
+use intake::grid::vertex_at;
 ghost use Prim.Native.Nat.{_*_, _/_, _<_, _+_};
 ghost use lib.ListN.{length};
+ghost use Rattle.intake.specs.Cells.{cells};
 ghost use Rattle.opening.specs.Scratch.{Plain, Filled};
 
 // Where the links begin.
@@ -19,18 +21,17 @@ fn bump(uses: &mut [u32], v: usize) {
 }
 
 // Puts the four corners of element k into the index.
-pub fn fill(elements: &[u32], vertices: usize, index: &mut [u32], uses: &mut [u32], k: usize)
-    requires { ⌜ Plain vertices (now elements) ⌝ }
-    requires { ⌜ Filled (now elements) (4 * k) (now index) ⌝ }
-    requires { ⌜ k < length (now elements) / 4 ⌝ }
-    ensures { λ _. ⌜ Filled (now (elements .entry)) (4 * (k + 1)) (now (index .exit)) ⌝ }
+pub fn fill(elements: &[u32], grid: Grid, vertices: usize, index: &mut [u32], uses: &mut [u32], k: usize)
+    requires { ⌜ Plain vertices (cells (now elements) grid) ⌝ }
+    requires { ⌜ Filled (cells (now elements) grid) (4 * k) (now index) ⌝ }
+    requires { ⌜ k < grid .count ⌝ }
+    ensures { λ _. ⌜ Filled (cells (now (elements .entry)) grid) (4 * (k + 1)) (now (index .exit)) ⌝ }
 {
-    let mut i = 4 * k;
-    let end = i + 4;
-    while i < end {
-        let v = wide(elements[i]);
-        chain::push(index, LINKS, i, v);
+    let mut q = 0usize;
+    while q < 4 {
+        let v = vertex_at(elements, grid, k, q);
+        chain::push(index, LINKS, 4 * k + q, v);
         bump(uses, v);
-        i += 1;
+        q += 1;
     }
 }

@@ -2,12 +2,12 @@
 use crate::answer::Opened;
 use crate::colours::PAINT;
 use intake::answer::Verdict;
+use intake::grid::Grid;
 use tables::layout::Counts;
 
 pub mod agree;
 pub mod answer;
 mod colours;
-mod elements;
 mod faces;
 mod index;
 mod judge;
@@ -16,6 +16,7 @@ mod store;
 
 ghost use mathlib.Core.Path.{_≡_};
 ghost use lib.ListN.{length};
+ghost use Rattle.intake.specs.Cells.{quads};
 ghost use Rattle.tables.specs.Mesh.{laid};
 ghost use Rattle.opening.specs.Opening.{Opens, lent, openedMesh};
 ghost use Rattle.opening.specs.Scratch.{Storable};
@@ -30,13 +31,17 @@ fn store_all(
     rows: &mut [u32],
 )
     requires { ⌜ Storable (now coordinates) (now elements) (now paint) (length (now points)) (length (now records)) (length (now rows)) ⌝ }
-    ensures { λ _. ⌜ lent (now (points .exit)) (now (records .exit)) (now (rows .exit)) ≡ laid (openedMesh (now (coordinates .entry)) (now (elements .entry))) (length (now (points .entry))) (length (now (records .entry))) (length (now (rows .entry))) ⌝ }
+    ensures { λ _. ⌜ lent (now (points .exit)) (now (records .exit)) (now (rows .exit)) ≡ laid (openedMesh (now (coordinates .entry)) (quads (now (elements .entry)))) (length (now (points .entry))) (length (now (records .entry))) (length (now (rows .entry))) ⌝ }
 {
     let vertices = coordinates.len() / 3;
-    let most = colours::largest_colour(elements, paint, vertices);
+    let grid = Grid {
+        rows: false,
+        count: elements.len() / 4,
+    };
+    let most = colours::largest_colour(paint, vertices);
     store::store_points(coordinates, points);
     store::store_records(paint, vertices, records);
-    store::store_rows(elements, paint, vertices, most, rows);
+    store::store_rows(elements, grid, paint, vertices, most, rows);
 }
 
 // Opens the mesh of the given coordinates (three a vertex) and elements (four vertex numbers each) into the lent tables.

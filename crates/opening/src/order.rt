@@ -1,8 +1,11 @@
 // The order of a root's vertices: sorted by colour, the last in front exactly if its colour is N (Definition 2).
+use intake::grid::Grid;
+use intake::grid::number_at;
 use split::row::Row;
 ghost use mathlib.Core.Path.{_≡_};
-ghost use Prim.Native.Nat.{_*_, _<_, _+_};
+ghost use Prim.Native.Nat.{_<_};
 ghost use lib.ListN.{length};
+ghost use Rattle.intake.specs.Cells.{cells};
 ghost use Rattle.split.specs.Split.{three};
 ghost use Rattle.forest.specs.Start.{arranged};
 ghost use Rattle.opening.specs.Order.{sorted, rootOf};
@@ -80,20 +83,18 @@ fn arrange(paint: &[u32], n: u32, w: Four) -> Four
 }
 
 // Row k of the opened mesh, N being the largest colour.
-pub fn root_row(elements: &[u32], paint: &[u32], vertices: usize, n: u32, k: usize) -> Row
-    requires { ⌜ Plain vertices (now elements) ⌝ }
+pub fn root_row(elements: &[u32], grid: Grid, paint: &[u32], vertices: usize, n: u32, k: usize) -> Row
+    requires { ⌜ Plain vertices (cells (now elements) grid) ⌝ }
     requires { ⌜ length (now paint) ≡ paintLength ⌝ }
-    requires { ⌜ 4 * k + 3 < length (now elements) ⌝ }
+    requires { ⌜ k < grid .count ⌝ }
     requires { ⌜ k < 4294967296 ⌝ }
-    ensures { λ r. ⌜ r ≡ rootOf n (colourIn (now (paint .entry))) (now (elements .entry)) k ⌝ }
+    ensures { λ r. ⌜ r ≡ rootOf n (colourIn (now (paint .entry))) (cells (now (elements .entry)) grid) k ⌝ }
 {
-    let i = 4 * k;
-    let w = Four {
-        a: elements[i],
-        b: elements[i + 1],
-        c: elements[i + 2],
-        d: elements[i + 3],
-    };
+    let a = number_at(elements, grid, k, 0);
+    let b = number_at(elements, grid, k, 1);
+    let c = number_at(elements, grid, k, 2);
+    let d = number_at(elements, grid, k, 3);
+    let w = Four { a, b, c, d };
     let f = arrange(paint, n, sort(paint, w));
     Row {
         v0: f.a,

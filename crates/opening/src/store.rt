@@ -1,26 +1,18 @@
 // The opened tables, written whole: points as given, records, rows, and zeros to the end of each lent table.
 use crate::order::root_row;
+use chain::clear;
+use intake::grid::Grid;
 use tables::layout::INITIAL;
 use tables::record::Record;
 ghost use mathlib.Core.Path.{_≡_};
 ghost use Prim.Native.Nat.{ℕ, _*_, _/_, _≤_, _<_};
 ghost use lib.ListN.{length, replicate};
+ghost use Rattle.intake.specs.Cells.{cells};
 ghost use Rattle.tables.specs.Layout.{noFloat, pointAt, pointCells, recordCells, rowCells};
 ghost use Rattle.tables.specs.Mesh.{padded, flat, upTo};
 ghost use Rattle.opening.specs.Opening.{initial};
 ghost use Rattle.opening.specs.Order.{rootOf};
 ghost use Rattle.opening.specs.Scratch.{paintLength, Plain, colourIn};
-
-fn clear_numbers(table: &mut [u32])
-    ensures { λ _. ⌜ now (table .exit) ≡ replicate (length (now (table .entry))) 0 ⌝ }
-{
-    let end = table.len();
-    let mut i = 0usize;
-    while i < end {
-        table[i] = 0;
-        i += 1;
-    }
-}
 
 fn clear_floats(table: &mut [f64])
     ensures { λ _. ⌜ now (table .exit) ≡ replicate (length (now (table .entry))) noFloat ⌝ }
@@ -63,7 +55,7 @@ pub fn store_records(paint: &[u32], vertices: usize, records: &mut [u32])
     requires { ⌜ 2 * vertices ≤ length (now records) ⌝ }
     ensures { λ _. ⌜ now (records .exit) ≡ padded (length (now (records .entry))) 0 (flat recordCells (upTo (λ (v : ℕ). initial (colourIn (now (paint .entry)) v)) vertices)) ⌝ }
 {
-    clear_numbers(records);
+    clear(records);
     let mut v = 0usize;
     while v < vertices {
         tables::record::write(records, v, initial_record(paint, v));
@@ -71,17 +63,17 @@ pub fn store_records(paint: &[u32], vertices: usize, records: &mut [u32])
     }
 }
 
-pub fn store_rows(elements: &[u32], paint: &[u32], vertices: usize, n: u32, rows: &mut [u32])
-    requires { ⌜ Plain vertices (now elements) ⌝ }
+pub fn store_rows(elements: &[u32], grid: Grid, paint: &[u32], vertices: usize, n: u32, rows: &mut [u32])
+    requires { ⌜ Plain vertices (cells (now elements) grid) ⌝ }
     requires { ⌜ length (now paint) ≡ paintLength ⌝ }
-    requires { ⌜ 8 * (length (now elements) / 4) ≤ length (now rows) ⌝ }
-    ensures { λ _. ⌜ now (rows .exit) ≡ padded (length (now (rows .entry))) 0 (flat rowCells (upTo (rootOf n (colourIn (now (paint .entry))) (now (elements .entry))) (length (now (elements .entry)) / 4))) ⌝ }
+    requires { ⌜ 8 * (grid .count) ≤ length (now rows) ⌝ }
+    ensures { λ _. ⌜ now (rows .exit) ≡ padded (length (now (rows .entry))) 0 (flat rowCells (upTo (rootOf n (colourIn (now (paint .entry))) (cells (now (elements .entry)) grid)) (grid .count))) ⌝ }
 {
-    clear_numbers(rows);
-    let count = elements.len() / 4;
+    clear(rows);
+    let count = grid.count;
     let mut k = 0usize;
     while k < count {
-        tables::row::write(rows, k, root_row(elements, paint, vertices, n, k));
+        tables::row::write(rows, k, root_row(elements, grid, paint, vertices, n, k));
         k += 1;
     }
 }

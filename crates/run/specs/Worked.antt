@@ -13,6 +13,7 @@ use Rattle.tables.specs.declared.record.Record.{Record}
 use Rattle.tables.specs.Layout.{noFloat, pointWidth, recordWidth, rowWidth}
 use Rattle.tables.specs.Mesh.{Mesh}
 use Rattle.forest.specs.Element.{Element, el}
+use Rattle.intake.specs.Cells.{quads}
 use Rattle.intake.specs.declared.answer.Verdict.{Verdict}
 use Rattle.intake.specs.declared.answer.Verdict.the-variants.{Passed}
 use Rattle.opening.specs.Opening.{initial, judged, openedMesh}

@@ -5,8 +5,10 @@ pub mod Reordered
 pub mod Ordered
 pub mod Arranged
 pub mod Reopened
+pub mod Views
 pub mod Again
 pub mod Laid
+pub mod Whole
 pub mod Bounded
 pub mod Opened
 pub mod Demanded

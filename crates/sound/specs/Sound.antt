@@ -1,13 +1,13 @@
 -- Sound tables (01, "Sound tables"), clause by clause in the document's words: clauses 2 to 7 on the mesh, then 1 and 8 on the tables. It does not say how tables came about: children and midpoints may be numbered as no call would number them.
 use mathlib.Core.Path.{_≡_}
-use mathlib.Core.List.{List, [], _∷_, map}
-use Prim.Native.Nat.{ℕ, _+_, _*_, _%_, _≤_, _<_}
+use mathlib.Core.List.{List, map}
+use Prim.Native.Nat.{ℕ, _+_, _/_, _%_, _≤_, _<_}
 use lib.ListN.{length, getD, take}
 use lib.Ieee.{Float}
 use Rattle.split.specs.declared.row.Row.{Row}
 use Rattle.split.specs.declared.row.Ends.{Ends}
 use Rattle.split.specs.declared.point.Point.{Point}
-use Rattle.split.specs.Split.{Side, left, right, Holds}
+use Rattle.split.specs.Split.{Side, left, right, at, Holds}
 use Rattle.split.specs.Row.{cornersOf, edgeOf, childOf, pair}
 use Rattle.split.specs.Midpoint.{between}
 use Rattle.tables.specs.declared.layout.Counts.{Counts}
@@ -15,7 +15,9 @@ use Rattle.tables.specs.declared.record.Record.{Record}
 use Rattle.tables.specs.Layout.{noPoint, noRecord, noRow, pointWidth, recordWidth, rowWidth, pointCells, roomOf}
 use Rattle.tables.specs.Mesh.{Lent, Mesh, meshOf, flat, Unused}
 use Rattle.intake.specs.declared.answer.Verdict.the-variants.{Passed}
-use Rattle.opening.specs.Opening.{judged, openedMesh}
+use Rattle.intake.specs.Cells.{Cells}
+use Rattle.intake.specs.Verdict.{plain}
+use Rattle.opening.specs.Opening.{late, openedMesh}
 
 -- ---- what a mesh has at a number
 
@@ -38,9 +40,9 @@ rowOf m r = getD (m .rows) r noRow
 abbrev pub childless : Row → Row
 childless r = record { v0 = r .v0; v1 = r .v1; v2 = r .v2; v3 = r .v3; tag = r .tag; parent = r .parent; child = 0; depth = r .depth }
 
--- a row's four vertices, as opening takes them
-abbrev pub vertexCells : Row → List ℕ
-vertexCells r = r .v0 ∷ r .v1 ∷ r .v2 ∷ r .v3 ∷ []
+-- rows as opening takes elements: each by its four vertices
+abbrev pub elementsOf : List Row → ℕ → Cells
+elementsOf l n = record { count = n; vertex = λ k q. at (cornersOf (getD l k noRow)) q }
 
 -- ---- clause 2: initial vertices come first, then midpoints; roots come first, then children
 
@@ -52,18 +54,19 @@ pub record Parted (m : Mesh) (i t : ℕ) : Type 0 where
   pub roots : (r : ℕ) → r < t → rowOf m r .parent ≡ r
   pub children : (r : ℕ) → t ≤ r → r < rows m → rowOf m r .parent ≡ r → ⊥
 
--- ---- clause 3: opening the initial vertices and roots afresh gives the same colours and, but for the first child, the same rows
+-- ---- clause 3: opening the initial vertices and roots afresh gives the same colours and, but for the first child, the same rows. There is a root; all else that tests 1 and 2 ask follows from clause 1 (`afresh-judged`)
 
 abbrev pub givenPoints : Mesh → ℕ → List Float
 givenPoints m i = flat pointCells (take i (m .points))
 
-abbrev pub givenElements : Mesh → ℕ → List ℕ
-givenElements m t = flat vertexCells (take t (m .rows))
+abbrev pub rootCells : Mesh → ℕ → Cells
+rootCells m t = elementsOf (take t (m .rows)) t
 
 pub record Afresh (m : Mesh) (i t : ℕ) : Type 0 where
-  pub opens : judged (givenPoints m i) (givenElements m t) (pointWidth * i) (recordWidth * i) (rowWidth * t) ≡ Passed
-  pub colours : openedMesh (givenPoints m i) (givenElements m t) .records ≡ take i (m .records)
-  pub rows : openedMesh (givenPoints m i) (givenElements m t) .rows ≡ map childless (take t (m .rows))
+  pub some : 1 ≤ t
+  pub opens : plain (givenPoints m i) (rootCells m t) (late (rootCells m t) (length (givenPoints m i) / 3)) ≡ Passed
+  pub colours : openedMesh (givenPoints m i) (rootCells m t) .records ≡ take i (m .records)
+  pub rows : openedMesh (givenPoints m i) (rootCells m t) .rows ≡ map childless (take t (m .rows))
 
 -- ---- clauses 4 and 5: children and their parents
 

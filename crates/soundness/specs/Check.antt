@@ -1,8 +1,8 @@
--- What the parts of the check decide beside the shape: clauses 3, 6 and 7. Callers are promised nothing of it but `Cleared`, of the memory that `check_in` is lent.
+-- What the parts of the check decide beside the shape: clauses 3, 6 and 7. Callers are promised nothing of it but `SoundIn`, by `check_in`.
 use mathlib.Core.Path.{_≡_}
 use mathlib.Core.Bool.{Bool, true}
 use mathlib.Core.List.{List, []}
-use Prim.Native.Nat.{ℕ, _+_, _-_, _*_, _%_, _≤_, _<_}
+use Prim.Native.Nat.{ℕ, _+_, _-_, _*_, _%_, _≤_, _<_, min, max}
 use lib.ListN.{length, getD}
 use lib.Ieee.{Float}
 use Rattle.split.specs.Split.{Holds}
@@ -10,9 +10,9 @@ use Rattle.split.specs.Row.{cornersOf}
 use Rattle.split.specs.Midpoint.{between}
 use Rattle.chain.specs.Chain.{Indexed}
 use Rattle.tables.specs.declared.layout.Counts.{Counts}
-use Rattle.tables.specs.Mesh.{meshOf, Unused}
+use Rattle.tables.specs.Mesh.{Lent, meshOf, Unused}
 use Rattle.tables.specs.Layout.{pointAt, recordAt, rowAt}
-use Rattle.sound.specs.Sound.{Afresh, Fitting}
+use Rattle.sound.specs.Sound.{Afresh, Fitting, Sound}
 use Rattle.sound.specs.Check.{Decides, lent, bare}
 use Rattle.shape.specs.Shape.{Children, Parents, middleAt}
 
@@ -60,11 +60,6 @@ pub record Fresh (scratch : List ℕ) : Type 0 where
   pub size : 100000 ≤ length scratch
   pub clear : (v : ℕ) → v < heads → getD scratch v 0 ≡ 0
 
--- the first n numbers of a table are zero
-pub record Zeroed (n whole : ℕ) (scratch : List ℕ) : Type 0 where
-  pub size : length scratch ≡ whole
-  pub zero : (v : ℕ) → v < n → getD scratch v 0 ≡ 0
-
 -- the answer b: no pair stands twice, and then all are in the index
 pub record Entered (r : List ℕ) (i n : ℕ) (b : Bool) (scratch : List ℕ) : Type 0 where
   pub decides : Decides (AllSingle r i n) b
@@ -94,11 +89,6 @@ pub record Clauses (p : List Float) (r w : List ℕ) (c : Counts) (i t : ℕ) : 
   pub single : AllSingle r i (c .vertices)
   pub used : (v : ℕ) → i ≤ v → v < c .vertices → (k : ℕ) × (t ≤ k) × (k < c .rows) × (middleAt w k ≡ v)
 
--- a scratch table all zero
-pub record Cleared (n : ℕ) (scratch : List ℕ) : Type 0 where
-  pub size : length scratch ≡ n
-  pub zero : (v : ℕ) → getD scratch v 0 ≡ 0
-
 -- of clause 6: the parents of each midpoint are smaller than it and in order, and its coordinates follow the rule
 abbrev pub AllRuled : List Float → List ℕ → Counts → ℕ → Type 0
 AllRuled p r c i = (v : ℕ) → i ≤ v → v < c .vertices → Ruled p r v
@@ -112,3 +102,14 @@ pub record Pairs (r w : List ℕ) (c : Counts) (i : ℕ) : Type 0 where
 pub record Rest (p : List Float) (r w : List ℕ) (c : Counts) (i : ℕ) : Type 0 where
   pub ruled : AllRuled p r c i
   pub pairs : Pairs r w c i
+
+-- ---- lent memory
+
+-- how many numbers are enough for the check of so many rows: the index of pairs has 80,000 heads and 20,000 links, that of opening a head for each vertex and four links for each root
+abbrev pub memoryFor : ℕ → ℕ
+memoryFor rows = max 100000 (20000 + 4 * min 100000 rows)
+
+-- so many numbers are enough, and the tables are sound
+pub record SoundIn (memory : ℕ) (t : Lent) (c : Counts) : Type 0 where
+  pub enough : memoryFor (c .rows) ≤ memory
+  pub sound : Sound t c

@@ -5,17 +5,23 @@ mod pairs;
 mod roots;
 mod steps;
 
+use chain::clear;
+use intake::grid::CORNERS;
 use shape::answer::Shape;
 use tables::layout::Counts;
+use tables::layout::MOST_ROWS;
+use tables::layout::MOST_VERTICES;
+use tables::layout::least;
+ghost use mathlib.Core.Path.{_≡_};
 ghost use Prim.Native.Nat.{_≤_};
-ghost use lib.ListN.{length};
+ghost use lib.ListN.{length, replicate};
 ghost use Rattle.sound.specs.Sound.{Sound};
 ghost use Rattle.sound.specs.Check.{Decides, lent};
-ghost use Rattle.soundness.specs.Check.{Cleared};
+ghost use Rattle.soundness.specs.Check.{memoryFor, SoundIn};
 
-// The check in the given memory, whatever it holds.
+// The check in memory that is enough, whatever it holds.
 fn decide(points: &[f64], records: &[u32], rows: &[u32], c: Counts, work: &mut [u32]) -> bool
-    requires { ⌜ 400000 ≤ length (now work) ⌝ }
+    requires { ⌜ memoryFor (c .rows) ≤ length (now work) ⌝ }
     ensures { λ r. ⌜ Decides (Sound (lent (now (points .entry)) (now (records .entry)) (now (rows .entry))) c) r ⌝ }
 {
     let found = shape::shaped(points, records, rows, c);
@@ -25,26 +31,44 @@ fn decide(points: &[f64], records: &[u32], rows: &[u32], c: Counts, work: &mut [
     false
 }
 
-// Whether the tables and counts are sound (document 01, "Sound tables").
+// Whether the tables and counts are sound (document 01, "Sound tables"). A small mesh has small memory.
 pub fn check(points: &[f64], records: &[u32], rows: &[u32], c: Counts) -> bool
     ensures { λ r. ⌜ Decides (Sound (lent (now (points .entry)) (now (records .entry)) (now (rows .entry))) c) r ⌝ }
 {
-    let mut work = [0u32; 400000];
-    decide(points, records, rows, c, &mut work)
+    if c.rows <= 20000 {
+        let mut small = [0u32; 100000];
+        return decide(points, records, rows, c, &mut small);
+    }
+    let mut large = [0u32; 420000];
+    decide(points, records, rows, c, &mut large)
 }
 
-// The same in memory that the caller lends and has a further use for; it is left all zero.
+// Whether so many numbers are enough memory for the check.
+fn is_enough(c: Counts, memory: usize) -> bool
+    ensures { λ r. ⌜ Decides (memoryFor (c .rows) ≤ memory) r ⌝ }
+{
+    if memory < 100000 {
+        return false;
+    }
+    MOST_VERTICES + CORNERS * least(MOST_ROWS, c.rows) <= memory
+}
+
+// The same in memory that the caller lends and has a further use for; it is left all zero. Memory that is not enough is answered by no.
 pub fn check_in(
     points: &[f64],
     records: &[u32],
     rows: &[u32],
     c: Counts,
-    work: &mut [u32; 540000],
+    work: &mut [u32],
 ) -> bool
-    ensures { λ r. ⌜ Decides (Sound (lent (now (points .entry)) (now (records .entry)) (now (rows .entry))) c) r ⌝ }
-    ensures { λ _. ⌜ Cleared 540000 (now (work .exit)) ⌝ }
+    ensures { λ r. ⌜ Decides (SoundIn (length (now (work .entry))) (lent (now (points .entry)) (now (records .entry)) (now (rows .entry))) c) r ⌝ }
+    ensures { λ _. ⌜ now (work .exit) ≡ replicate (length (now (work .entry))) 0 ⌝ }
 {
+    if !is_enough(c, work.len()) {
+        clear(work);
+        return false;
+    }
     let sound = decide(points, records, rows, c, work);
-    pairs::clear(work, 540000);
+    clear(work);
     sound
 }

@@ -1,11 +1,12 @@
 // The pairs of parents, indexed by a key made of both: no pair stands twice (clause 6), and whether two vertices are a pair (clause 7). A vertex with very many others costs no more than any, since each of its pairs has a key of its own.
+use chain::clear;
 use chain::wide;
 ghost use mathlib.Core.Path.{_≡_};
 ghost use Prim.Native.Nat.{_-_, _≤_, _<_};
 ghost use lib.ListN.{length};
 ghost use Rattle.chain.specs.Chain.{Indexed};
 ghost use Rattle.sound.specs.Check.{Decides};
-ghost use Rattle.soundness.specs.Check.{Zeroed, Fresh, Run, heads, keyOf, pairAt, Has, Untaken, Entered};
+ghost use Rattle.soundness.specs.Check.{Fresh, Run, heads, keyOf, pairAt, Has, Untaken, Entered};
 
 // Four for each vertex that there can be, so that the chains are short.
 pub const HEADS: usize = 80000;
@@ -45,16 +46,12 @@ pub fn untaken(records: &[u32], scratch: &[u32], i: usize, n: usize, a: u32, b: 
     true
 }
 
-// Sets the first n numbers to zero.
-pub fn clear(scratch: &mut [u32], n: usize)
-    requires { ⌜ n ≤ length (now scratch) ⌝ }
-    ensures { λ _. ⌜ Zeroed n (length (now (scratch .entry))) (now (scratch .exit)) ⌝ }
+// Sets the heads to zero; what the links hold is of no account.
+pub fn clear_heads(scratch: &mut [u32])
+    requires { ⌜ 100000 ≤ length (now scratch) ⌝ }
+    ensures { λ _. ⌜ Fresh (now (scratch .exit)) ⌝ }
 {
-    let mut i = 0usize;
-    while i < n {
-        scratch[i] = 0;
-        i += 1;
-    }
+    clear(&mut scratch[0..HEADS]);
 }
 
 // Enters the pairs of the vertices from i on, below n, up to the first pair that is there already.

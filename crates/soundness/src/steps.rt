@@ -1,4 +1,4 @@
-// Clauses 3, 6 and 7 of tables that have the shape. The scratch table holds the vertices of the roots for clause 3, and then the index of pairs; what it holds before is of no account.
+// Clauses 3, 6 and 7 of tables that have the shape. The scratch table holds the index of pairs; what it holds before is of no account.
 use crate::conform;
 use crate::midpoints;
 use crate::pairs;
@@ -9,7 +9,7 @@ ghost use lib.ListN.{length};
 ghost use Rattle.sound.specs.Sound.{Sound};
 ghost use Rattle.sound.specs.Check.{Decides, lent};
 ghost use Rattle.shape.specs.Shape.{Shapely};
-ghost use Rattle.soundness.specs.Check.{Run, Rising, Pairs};
+ghost use Rattle.soundness.specs.Check.{Run, Rising, Pairs, memoryFor};
 
 // Of clause 6 that no pair stands twice, and clause 7.
 fn pairs_fit(records: &[u32], rows: &[u32], c: Counts, i: usize, scratch: &mut [u32]) -> bool
@@ -19,7 +19,7 @@ fn pairs_fit(records: &[u32], rows: &[u32], c: Counts, i: usize, scratch: &mut [
     ensures { λ r. ⌜ Decides (Pairs (now (records .entry)) (now (rows .entry)) c i) r ⌝ }
 {
     let n = c.vertices;
-    pairs::clear(scratch, pairs::HEADS);
+    pairs::clear_heads(scratch);
     if !pairs::enter(records, i, n, scratch) {
         return false;
     }
@@ -36,7 +36,7 @@ pub fn judge(
     scratch: &mut [u32],
 ) -> bool
     requires { ⌜ Shapely (now points) (now records) (now rows) c i t ⌝ }
-    requires { ⌜ 400000 ≤ length (now scratch) ⌝ }
+    requires { ⌜ memoryFor (c .rows) ≤ length (now scratch) ⌝ }
     ensures { λ r. ⌜ Decides (Sound (lent (now (points .entry)) (now (records .entry)) (now (rows .entry))) c) r ⌝ }
 {
     if !roots::afresh(points, records, rows, c, i, t, scratch) {

@@ -11,6 +11,7 @@ use Rattle.tables.specs.Layout.{rowAt}
 use Rattle.tables.specs.Mesh.{Lent, meshOf, laid}
 use Rattle.tables.specs.Report.{Report, refusal}
 use Rattle.forest.specs.Shallow as forest
+use Rattle.intake.specs.Cells.{quads}
 use Rattle.opening.specs.declared.answer.Opened.{Opened}
 use Rattle.opening.specs.declared.answer.Opened.the-variants as opened
 use Rattle.opening.specs.Opening as opening
@@ -55,7 +56,7 @@ unfoldable pub opens : Input → Opened
 opens i = opening.answer (opening.judged (i .coordinates) (i .elements) 1536 1024 6144) (length (i .coordinates) / 3) (length (i .elements) / 4)
 
 unfoldable pub openedTables : Input → Lent
-openedTables i = laid (opening.openedMesh (i .coordinates) (i .elements)) 1536 1024 6144
+openedTables i = laid (opening.openedMesh (i .coordinates) (quads (i .elements))) 1536 1024 6144
 
 -- the text is that of the opened mesh; where opening refused, the C line alone
 abbrev pub Outcome : Opened → Input → List ℕ → Type 0

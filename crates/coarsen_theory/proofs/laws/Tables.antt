@@ -13,7 +13,6 @@ use Rattle.opening.proofs.laws.Counting.{count-below}
 use Rattle.sound.specs.Sound.{vertices, rows, pointOf, Sound}
 use Rattle.sound.proofs.laws.Tested.{Roomed}
 use Rattle.sound.proofs.laws.Laid.{mesh-vertices, mesh-rows, laid-sound}
-use Rattle.sound.proofs.laws.Afresh.{roots-some}
 use Rattle.coarsen_theory.specs.Dropping.{goneBy}
 use Rattle.coarsen_theory.specs.Free.{Free}
 use Rattle.coarsen_theory.specs.Thinned.{stays, keeps, newVertex, newRow, sift, thinRow, thinRecord, thinned}
@@ -52,7 +51,7 @@ module _ {t : Lent} {c : Counts} (s : Sound t c) where
 
     -- row 0 is a root, so it is kept
     some-row : 1 ≤ rows after
-    some-row = rw (rows-thinned m (s .initials) gone) (omega (arith, count-less (keeps m gone) 0 (rows m) (omega (arith, mesh-rows t c, s .fitting .some)) (root-kept (s .grown) f 0 (roots-some (s .grown .afresh) (s .grown .parted .rows-in)))))
+    some-row = rw (rows-thinned m (s .initials) gone) (omega (arith, count-less (keeps m gone) 0 (rows m) (omega (arith, mesh-rows t c, s .fitting .some)) (root-kept (s .grown) f 0 (s .grown .afresh .some))))
 
     within : Within after (length (t .points)) (length (t .records)) (length (t .rows))
     within = record {

@@ -1,5 +1,5 @@
 -- Tables that hold what opening gives: what the comparing functions return, and what it means that they return true.
-use mathlib.Core.Path.{_≡_, refl, sym, _∙_}
+use mathlib.Core.Path.{_≡_, refl, sym, ap, _∙_}
 use mathlib.Core.Logic.{inl, inr}
 use mathlib.Core.Bool.{Bool, true, false, not, _||_, _&&_, true≢false}
 use mathlib.Core.List.{List}
@@ -7,23 +7,24 @@ use Prim.Native.Nat.{ℕ, zero, suc, _+_, _*_, _/_, _%_, _≤_, _<_, zero-le}
 use native.Mathlib.Nat.{eq-or-lt-of-le, le-of-suc-le-suc, le-antisymm}
 use native.Mathlib.Numerals.{add-one}
 use native.Mathlib.Omega.{arith}
-use borrow.Author.Tests.{eqb-true, eq-eqb, ne-eqb, lt-ltb}
-use lib.Dec.{eqb, ltb}
-use lib.ListN.{length}
+use borrow.Author.Tests.{eqb-true, eq-eqb, ne-eqb, le-leb, lt-leb, leb-true, not-true, not-false}
+use lib.Dec.{eqb, leb}
+use lib.ListN.{length, replicate, length-replicate}
 use lib.Ieee.{Float}
 use Rattle.split.specs.declared.row.Row.{Row}
 use Rattle.tables.specs.declared.record.Record.{Record}
 use Rattle.tables.specs.Layout.{recordAt, rowAt}
+use Rattle.intake.specs.Cells.{Cells}
 use Rattle.intake.specs.declared.answer.Verdict.{Verdict}
 use Rattle.intake.specs.declared.answer.Verdict.the-variants.{Refused, Passed}
-use Rattle.intake.specs.Causes.{wrongInput}
+use Rattle.intake.specs.Verdict.{plain}
 use Rattle.opening.specs.Colours.{colours, largest}
 use Rattle.opening.specs.Order.{rootOf}
-use Rattle.opening.specs.Opening.{initial, judged}
-use Rattle.opening.specs.Scratch.{Settled, colourIn}
-use Rattle.opening.specs.Agree.{accepts, every, sameRecord, sameRoot, recordsAgree, rowsAgree, paint, agreed}
-use Rattle.intake.proofs.laws.Verdicts.{input-refused}
+use Rattle.opening.specs.Opening.{initial, late}
+use Rattle.opening.specs.Scratch.{linksAt, Moderate, Given, Passing, colourIn}
+use Rattle.opening.specs.Agree.{accepts, every, sameRecord, sameRoot, recordsAgree, rowsAgree, paint, agreed, workable}
 use Rattle.opening.proofs.laws.Opened.{colours-stored}
+use Rattle.opening.proofs.laws.Indexing.{given-zeros}
 
 -- ---- a chain of `&&`
 
@@ -37,18 +38,13 @@ holds a b r p q = rw (p, q)
 
 pub ruleset agreeing = (fails, holds, eq-eqb, ne-eqb)
 
-both : (a b : Bool) → (a && b) ≡ true → (a ≡ true) × (b ≡ true)
+pub both : (a b : Bool) → (a && b) ≡ true → (a ≡ true) × (b ≡ true)
 both true b e = (refl, e)
 both false b e = absurd (true≢false (sym e))
 
 fails-last : (a : Bool) → (a && false) ≡ false
 fails-last true = refl
 fails-last false = refl
-
--- a chain of `||` whose later tests hold
-later : (a b : Bool) → b ≡ true → (a || b) ≡ true
-later true b e = refl
-later false b e = e
 
 -- ---- two records, and two rows but for the first child
 
@@ -155,7 +151,7 @@ module _ {test : ℕ → Bool} {n i : ℕ} (s : Agreeing test n i) where
   pub agreeing-end : n ≤ i → true ≡ every test n
   agreeing-end h = rw (le-antisymm h (s .within)) (sym (s .all))
 
--- ---- the whole comparison
+-- ---- records
 
 module _ (colour : ℕ → ℕ) (R : List ℕ) (n : ℕ) where
   records-same : recordsAgree colour R n ≡ true → (v : ℕ) → v < n → recordAt R v ≡ initial (colour v)
@@ -170,70 +166,96 @@ accepts-passed : (r : Verdict) → accepts r ≡ true → r ≡ Passed
 accepts-passed (Refused n p) e = absurd (true≢false (sym e))
 accepts-passed Passed e = refl
 
-module _ (f e : ℕ) where
-  input-long : 60000 < f → wrongInput f e ≡ true
-  unfolding wrongInput
-  input-long h = rw (lt-ltb 60000 f h) (later (not (eqb (f % 3) 0)) _ (later (not (eqb (e % 4) 0)) _ (later (eqb e 0) true refl)))
+-- ---- lengths
 
-  input-many : 400000 < e → wrongInput f e ≡ true
-  unfolding wrongInput
-  input-many h =
-      rw (lt-ltb 400000 e h) (later (not (eqb (f % 3) 0)) _ (later (not (eqb (e % 4) 0)) _ (later (eqb e 0) _ (later (ltb 60000 f) true refl))))
+module _ (coordinates elements memory : ℕ) where
+  pub workable-long : 60000 < coordinates → false ≡ workable coordinates elements memory
+  unfolding workable
+  workable-long h = rw (lt-leb coordinates 60000 h)
 
--- the verdict on F and E in tables of just their room
-abbrev fresh : List Float → List ℕ → Verdict
-fresh F E = judged F E (3 * (length F / 3)) (2 * (length F / 3)) (8 * (length E / 4))
+  pub workable-none : elements < 1 → false ≡ workable coordinates elements memory
+  unfolding workable
+  workable-none h = rw (lt-leb 1 elements h, fails-last)
 
-module _ (F : List Float) (E R W : List ℕ) where
-  refused : {n p : ℕ} → fresh F E ≡ Refused n p → false ≡ agreed F E R W
-  unfolding agreed
-  refused e = rw e
+  pub workable-many : 100000 < elements → false ≡ workable coordinates elements memory
+  unfolding workable
+  workable-many h = rw (lt-leb elements 100000 h, fails-last, fails-last)
 
-  wrong : wrongInput (length F) (length E) ≡ true → false ≡ agreed F E R W
-  unfolding judged
-  wrong e = refused (input-refused (length F) (length E) _ _ _ _ e)
+  pub workable-room : {r : Bool} → coordinates ≤ 60000 → 1 ≤ elements → elements ≤ 100000 → r ≡ leb (linksAt + 4 * elements) memory → r ≡ workable coordinates elements memory
+  unfolding workable
+  workable-room f s g e = rw (le-leb coordinates 60000 f, le-leb 1 elements s, le-leb elements 100000 g, e)
 
-  pub agreed-long : 60000 < length F → false ≡ agreed F E R W
-  agreed-long h = wrong (input-long (length F) (length E) h)
+  pub record Workable : Type 0 where
+    pub moderate : Moderate coordinates elements
+    pub some : 1 ≤ elements
+    pub room : linksAt + 4 * elements ≤ memory
 
-  pub agreed-many : 400000 < length E → false ≡ agreed F E R W
-  agreed-many h = wrong (input-many (length F) (length E) h)
+  pub workable-means : workable coordinates elements memory ≡ true → Workable
+  unfolding workable
+  workable-means e =
+      let (a, e1) = both (leb coordinates 60000) _ e in
+      let (b, e2) = both (leb 1 elements) _ e1 in
+      let (c, d) = both (leb elements 100000) _ e2 in
+      record { moderate = record { few-coordinates = leb-true _ _ a; few-elements = leb-true _ _ c }; some = leb-true _ _ b; room = leb-true _ _ d }
 
-  -- x is the verdict of the tests
-  module _ {x : Verdict} {table : List ℕ} (s : Settled F E (3 * (length F / 3)) (2 * (length F / 3)) (8 * (length E / 4)) x table) where
+  pub means-workable : Workable → workable coordinates elements memory ≡ true
+  unfolding workable
+  means-workable w = rw (le-leb coordinates 60000 (w .moderate .few-coordinates), le-leb 1 elements (w .some), le-leb elements 100000 (w .moderate .few-elements), le-leb (linksAt + 4 * elements) memory (w .room))
+
+-- ---- the whole comparison
+
+module _ (F : List Float) (E : Cells) (R W : List ℕ) where
+  -- x is the verdict of tests 3 to 8
+  module _ {x : Verdict} {table : List ℕ} (s : Passing F E x table) where
     pub agreed-refused : {n p : ℕ} → x ≡ Refused n p → false ≡ agreed F E R W
-    agreed-refused e = refused (sym (s .answer) ∙ e)
+    unfolding agreed
+    agreed-refused e = rw (← s .answer, e)
 
     -- r is the answer on the records: the table has the colours of Algorithm 2
     module _ (e : x ≡ Passed) {r : Bool} (a : r ≡ recordsAgree (colourIn table) R (length F / 3)) where
-      passed : fresh F E ≡ Passed
-      passed = sym (s .answer) ∙ e
-
       painted : colourIn table ≡ paint F E
-      painted = colours-stored (s .storable e .painted)
+      painted = colours-stored (s .painted e)
 
       pub agreed-records : r ≡ false → false ≡ agreed F E R W
       unfolding agreed
-      agreed-records b = rw (passed, ← painted, ← a, b)
+      agreed-records b = rw (← s .answer, e, ← painted, ← a, b)
 
-      pub agreed-rows : {N : ℕ} {w : Bool} → r ≡ true → N ≡ largest (colours E (length F / 3)) → w ≡ rowsAgree N (colourIn table) E W (length E / 4) → w ≡ agreed F E R W
+      pub agreed-rows : {N : ℕ} {w : Bool} → r ≡ true → N ≡ largest (colours E (length F / 3)) → w ≡ rowsAgree N (colourIn table) E W (E .count) → w ≡ agreed F E R W
       unfolding agreed
-      agreed-rows b n d = rw (passed, ← painted, ← a, b, ← n, ← d)
+      agreed-rows b n d = rw (← s .answer, e, ← painted, ← a, b, ← n, ← d)
 
   -- what it means that the answer is true
   pub agreed-means : agreed F E R W ≡ true
-      → (judged F E (3 * (length F / 3)) (2 * (length F / 3)) (8 * (length E / 4)) ≡ Passed)
+      → (plain F E (late E (length F / 3)) ≡ Passed)
       × ((v : ℕ) → v < length F / 3 → recordAt R v ≡ initial (paint F E v))
-      × ((k : ℕ) → k < length E / 4 → sameRoot (rowAt W k) (rootOf (largest (colours E (length F / 3))) (paint F E) E k) ≡ true)
+      × ((k : ℕ) → k < E .count → sameRoot (rowAt W k) (rootOf (largest (colours E (length F / 3))) (paint F E) E k) ≡ true)
   unfolding agreed rowsAgree
   agreed-means e =
       let (a, b) = both _ _ e in
       let (c, d) = both _ _ b in
-      (accepts-passed _ a, records-same (paint F E) R (length F / 3) c, every-all _ (length E / 4) d)
+      (accepts-passed _ a, records-same (paint F E) R (length F / 3) c, every-all _ (E .count) d)
 
-  pub means-agreed : judged F E (3 * (length F / 3)) (2 * (length F / 3)) (8 * (length E / 4)) ≡ Passed
+  pub means-agreed : plain F E (late E (length F / 3)) ≡ Passed
       → ((v : ℕ) → v < length F / 3 → recordAt R v ≡ initial (paint F E v))
-      → ((k : ℕ) → k < length E / 4 → sameRoot (rowAt W k) (rootOf (largest (colours E (length F / 3))) (paint F E) E k) ≡ true)
+      → ((k : ℕ) → k < E .count → sameRoot (rowAt W k) (rootOf (largest (colours E (length F / 3))) (paint F E) E k) ≡ true)
       → agreed F E R W ≡ true
   unfolding agreed rowsAgree
-  means-agreed e r w = rw (e, same-records (paint F E) R (length F / 3) r, all-every _ (length E / 4) w)
+  means-agreed e r w = rw (e, same-records (paint F E) R (length F / 3) r, all-every _ (E .count) w)
+
+-- ---- in lent memory l, which is cleared
+
+module _ (l : List ℕ) {clear : List ℕ} (e : clear ≡ replicate (length l) 0) (coordinates elements : ℕ) {b : Bool} (w : b ≡ workable coordinates elements (length clear)) where
+  as-lent : b ≡ workable coordinates elements (length l)
+  as-lent = w ∙ ap (workable coordinates elements) (ap length e ∙ length-replicate (length l) 0)
+
+  pub memory-short : (x : Bool) → not b ≡ true → false ≡ (workable coordinates elements (length l) && x)
+  memory-short x n = fails _ _ (sym as-lent ∙ not-true b n)
+
+  pub memory-given : {E : Cells} → E .count ≡ elements → not b ≡ false → Given coordinates E clear
+  memory-given q n = let m = workable-means coordinates elements (length l) (sym as-lent ∙ not-false b n) in rw e (given-zeros {n = length l} (rw q (m .moderate)) (rw q (m .room)))
+
+  pub memory-same : {r x : Bool} → not b ≡ false → r ≡ x → r ≡ (workable coordinates elements (length l) && x)
+  memory-same n q = holds _ _ _ (sym as-lent ∙ not-false b n) q
+
+pub memory-left : (l used : List ℕ) {left : List ℕ} → left ≡ replicate (length used) 0 → length used ≡ length l → left ≡ replicate (length l) 0
+memory-left l used e n = e ∙ ap (λ (k : ℕ). replicate k 0) n

@@ -10,6 +10,7 @@ use borrow.Author.Tests.{ltb-true, eqb-true, lt-ltb, eq-eqb}
 use lib.Dec.{eqb, ltb}
 use lib.ListN.{length, getD, take, length-append, List·getD-append, List·getD-eq-default}
 use lib.Seq.{getD-at, take-append-le, take-all}
+use Rattle.intake.specs.Cells.{Cells}
 use Rattle.intake.specs.Search.{any}
 use Rattle.intake.specs.Causes.{vertex, has}
 use Rattle.opening.specs.Colours.{smaller, taken, colours, colourOf, largest}
@@ -18,7 +19,7 @@ use Rattle.opening.proofs.laws.Free.{free-most}
 
 -- ---- the list
 
-module _ (E : List ℕ) where
+module _ (E : Cells) where
   colours-step : (n : ℕ) → colours E (n + 1) ≡ colours E n ++ (colourOf E n ∷ [])
   unfolding colours
   colours-step n = rw add-one
@@ -62,25 +63,25 @@ and-both true b e = (refl, e)
 and-both false b e = absurd (true≢false (sym e))
 
 -- an element that holds v, and a place in it with a smaller vertex of this colour
-pub record Neighbour (E painted : List ℕ) (v c : ℕ) : Type 0 where
+pub record Neighbour (E : Cells) (painted : List ℕ) (v c : ℕ) : Type 0 where
   pub element : ℕ
   pub place : ℕ
-  pub there : element < length E / 4
+  pub there : element < E .count
   pub four : place < 4
   pub holds : has E element v ≡ true
   pub less : vertex E element place < v
   pub colour : getD painted (vertex E element place) 0 ≡ c
 
-module _ (E painted : List ℕ) (v c : ℕ) where
+module _ (E : Cells) (painted : List ℕ) (v c : ℕ) where
   pub taken-has : Neighbour E painted v c → taken E painted v c ≡ true
   unfolding taken
-  taken-has r = any-has (λ j. has E j v && any (smaller E painted v c j) 4) (length E / 4) (r .element) (r .there) (rw (r .holds) (any-has (smaller E painted v c (r .element)) 4 (r .place) (r .four) (rw (lt-ltb (vertex E (r .element) (r .place)) v (r .less)) (eq-eqb _ _ (r .colour)))))
+  taken-has r = any-has (λ j. has E j v && any (smaller E painted v c j) 4) (E .count) (r .element) (r .there) (rw (r .holds) (any-has (smaller E painted v c (r .element)) 4 (r .place) (r .four) (rw (lt-ltb (vertex E (r .element) (r .place)) v (r .less)) (eq-eqb _ _ (r .colour)))))
 
   pub taken-some : taken E painted v c ≡ true → Neighbour E painted v c
   unfolding taken
-  taken-some t = inside (any-some (λ j. has E j v && any (smaller E painted v c j) 4) (length E / 4) t)
+  taken-some t = inside (any-some (λ j. has E j v && any (smaller E painted v c j) 4) (E .count) t)
     where
-      inside : (j : ℕ) × (j < length E / 4) × (has E j v && any (smaller E painted v c j) 4 ≡ true) → Neighbour E painted v c
+      inside : (j : ℕ) × (j < E .count) × (has E j v && any (smaller E painted v c j) 4 ≡ true) → Neighbour E painted v c
       inside (j, l, h) =
           let both = and-both (has E j v) (any (smaller E painted v c j) 4) h in
           let some = any-some (smaller E painted v c j) 4 (both .1) in
@@ -88,16 +89,16 @@ module _ (E painted : List ℕ) (v c : ℕ) where
           record { element = j; place = some .0; there = l; four = some .1; holds = both .0; less = ltb-true _ _ (at .0); colour = eqb-true _ _ (at .1) }
 
 -- a colour is no larger than its vertex, so no colour from v on is taken
-pub colour-most : (E : List ℕ) (v : ℕ) → colourOf E v ≤ v
+pub colour-most : (E : Cells) (v : ℕ) → colourOf E v ≤ v
 colour-most E v = free-most (taken E (colours E v) v) v
 
-taken-below : (E : List ℕ) (v c : ℕ) → taken E (colours E v) v c ≡ true → c < v
+taken-below : (E : Cells) (v c : ℕ) → taken E (colours E v) v c ≡ true → c < v
 taken-below E v c t =
     let r = taken-some E (colours E v) v c t in
     let u = vertex E (r .element) (r .place) in
     omega (arith, r .less, r .colour, colours-at E v u (r .less), colour-most E u)
 
-pub taken-last : (E : List ℕ) (v : ℕ) → taken E (colours E v) v v ≡ false
+pub taken-last : (E : Cells) (v : ℕ) → taken E (colours E v) v v ≡ false
 taken-last E v = go (taken E (colours E v) v v) refl
   where
     go : (b : Bool) → taken E (colours E v) v v ≡ b → b ≡ false
@@ -105,7 +106,7 @@ taken-last E v = go (taken E (colours E v) v v) refl
     go false t = refl
 
 -- an element holds the vertices at its four places, and no others
-pub has-place : (E : List ℕ) (j q : ℕ) → q < 4 → has E j (vertex E j q) ≡ true
+pub has-place : (E : Cells) (j q : ℕ) → q < 4 → has E j (vertex E j q) ≡ true
 unfolding has
 has-place E j zero h = rw (eq-eqb (vertex E j 0) _ refl)
 has-place E j (suc zero) h = rw (eq-eqb (vertex E j 1) _ refl, or-true)
@@ -113,7 +114,7 @@ has-place E j (suc (suc zero)) h = rw (eq-eqb (vertex E j 2) _ refl, or-true, or
 has-place E j (suc (suc (suc zero))) h = rw (eq-eqb (vertex E j 3) _ refl, or-true, or-true, or-true)
 has-place E j (suc (suc (suc (suc q)))) h = absurd (omega arith)
 
-pub has-some : (E : List ℕ) (j v : ℕ) → has E j v ≡ true → (q : ℕ) × (q < 4) × (vertex E j q ≡ v)
+pub has-some : (E : Cells) (j v : ℕ) → has E j v ≡ true → (q : ℕ) × (q < 4) × (vertex E j q ≡ v)
 unfolding has
 has-some E j v h = go (eqb (vertex E j 0) v) (eqb (vertex E j 1) v) (eqb (vertex E j 2) v) (eqb (vertex E j 3) v) refl refl refl refl h
   where
@@ -125,7 +126,7 @@ has-some E j v h = go (eqb (vertex E j 0) v) (eqb (vertex E j 1) v) (eqb (vertex
 
 -- ---- the largest colour
 
-pub largest-none : (E : List ℕ) → largest (colours E 0) ≡ 0
+pub largest-none : (E : Cells) → largest (colours E 0) ≡ 0
 unfolding colours largest
 largest-none E = refl
 
@@ -134,5 +135,5 @@ unfolding largest
 largest-end [] c = omega arith
 largest-end (d ∷ cs) c = omega (arith, largest-end cs c)
 
-pub largest-step : (E : List ℕ) (n : ℕ) → largest (colours E (n + 1)) ≡ max (largest (colours E n)) (colourOf E n)
+pub largest-step : (E : Cells) (n : ℕ) → largest (colours E (n + 1)) ≡ max (largest (colours E n)) (colourOf E n)
 largest-step E n = rw colours-step (largest-end (colours E n) (colourOf E n))

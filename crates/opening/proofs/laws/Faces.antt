@@ -13,6 +13,7 @@ use mir.Facts.{fits-below}
 use borrow.Author.Tests.{eq-eqb, ne-eqb}
 use lib.Dec.{ltb, leb}
 use lib.ListN.{length}
+use Rattle.intake.specs.Cells.{Cells}
 use Rattle.opening.specs.declared.faces.Seen.{Seen}
 use Rattle.opening.specs.declared.faces.Met.{Met}
 use Rattle.intake.specs.Causes.{vertex, has, before, same, third}
@@ -20,7 +21,7 @@ use Rattle.opening.specs.Scratch.{Plain, Chosen, Other, one, Held, noted
 use Rattle.opening.proofs.laws.Counting.{any-count, count-same}
 
 -- element k holds v, looked for at one place after the other
-module _ (E : List ℕ) (k v : ℕ) where
+module _ (E : Cells) (k v : ℕ) where
   held : has E k v ≡ true → Held E k v 1
   held e = record { is = rw e; small = omega arith }
 
@@ -56,20 +57,20 @@ all-turned f (suc (suc (suc zero))) h = sym (turned (f 3) (f 0) (f 1) (f 2))
 all-turned f (suc (suc (suc (suc m)))) h = absurd (omega arith)
 
 -- so may three
-rolled : (E : List ℕ) (k a b c : ℕ) → before E k b c a ≡ before E k a b c
+rolled : (E : Cells) (k a b c : ℕ) → before E k b c a ≡ before E k a b c
 rolled E k a b c = count-same _ _ k (λ j h. rw (and-comm (has E j a) (has E j b && has E j c)) (simp and-assoc))
 
 -- ---- three faces of element k, from the counts at its place m
 
-record Three (E : List ℕ) (k m : ℕ) (s : Seen) : Type 0 where
+record Three (E : Cells) (k m : ℕ) (s : Seen) : Type 0 where
   bc : s .bc ≡ opposite E k ((m + 1) % 4)
   ac : s .ac ≡ opposite E k ((m + 2) % 4)
   ab : s .ab ≡ opposite E k ((m + 3) % 4)
 
-abbrev At : List ℕ → ℕ → ℕ → Seen → Type 0
+abbrev At : Cells → ℕ → ℕ → Seen → Type 0
 At E k m s = Counted E k (vertex E k m) (vertex E k ((m + 1) % 4)) (vertex E k ((m + 2) % 4)) (vertex E k ((m + 3) % 4)) s
 
-module _ (E : List ℕ) (k : ℕ) where
+module _ (E : Cells) (k : ℕ) where
   turn : (a b c : ℕ) → before E k (vertex E k b) (vertex E k c) (vertex E k a) ≡ before E k (vertex E k a) (vertex E k b) (vertex E k c)
   turn a b c = rolled E k (vertex E k a) (vertex E k b) (vertex E k c)
 
@@ -143,8 +144,8 @@ module _ (E : List ℕ) (k : ℕ) where
           pick i l (yes q) = y .none e i l (λ z. d .apart (sym z ∙ q))
           pick i l (no q) = x .none t i l q
 
-pub vertex-there : {vertices v : ℕ} {E : List ℕ} (k m : ℕ) → Plain vertices E → k < length E / 4 → m < 4 → v ≡ vertex E k m → v < vertices
-vertex-there k m x h l e = rw e (x .there (4 * k + m) (omega (arith, x .whole)))
+pub vertex-there : {vertices v : ℕ} {E : Cells} (k m : ℕ) → Plain vertices E → k < E .count → m < 4 → v ≡ vertex E k m → v < vertices
+vertex-there k m x h l e = rw e (x .there k m h l)
 
 -- a place other than m, chosen in two steps
 pub other-chosen : {m p q : ℕ} → m < 4 → Chosen ((m + 1) % 4) ((m + 2) % 4) p → Chosen p ((m + 3) % 4) q → Other m q
@@ -175,7 +176,7 @@ sum-fits n p h l = fits-below {n = 400001} tt (omega arith)
 
 pub ruleset products = (product-small, product-fits, sum-fits)
 
-pub noted-held : {E : List ℕ} {j a b c x y z : ℕ} (s : Seen) → Held E j a x → Held E j b y → Held E j c z → _≡_ {A = Seen} (record { all = s .all + x * (y * z); ab = s .ab + x * y; ac = s .ac + x * z; bc = s .bc + y * z }) (noted (has E j a) (has E j b) (has E j c) s)
+pub noted-held : {E : Cells} {j a b c x y z : ℕ} (s : Seen) → Held E j a x → Held E j b y → Held E j c z → _≡_ {A = Seen} (record { all = s .all + x * (y * z); ab = s .ab + x * y; ac = s .ac + x * z; bc = s .bc + y * z }) (noted (has E j a) (has E j b) (has E j c) s)
 unfolding noted
 noted-held {E} {j} {a} {b} {c} s e f g =
     rw (e .is, f .is, g .is, ones (has E j b) (has E j c), ones (has E j a) (has E j b), ones (has E j a) (has E j c), ones (has E j a) (has E j b && has E j c))

@@ -1,38 +1,15 @@
--- Loops that fill a table: one that sets every number to z, and one that puts one thing after the other.
-use mathlib.Core.Path.{_≡_, refl, sym, ap, _∙_}
+-- A loop that puts one thing after the other into a table.
+use mathlib.Core.Path.{_≡_, refl, ap, _∙_}
 use mathlib.Core.List.{List, _++_}
 use Prim.Native.Nat.{ℕ, _+_, _-_, _*_, _≤_, _<_}
 use native.Mathlib.Nat.{mul-zero, mul-suc, mul-le-mul-left, sub-zero}
 use native.Mathlib.Numerals.{add-one}
 use native.Mathlib.Omega.{arith}
-use lib.ListN.{length, take, set, replicate, length-replicate, length-set, replicate-append-replicate}
-use lib.Seq.{take-all, take-suc-set}
+use lib.ListN.{length, replicate, length-replicate}
 use Rattle.tables.specs.Mesh.{upTo, flat, padded}
 use Rattle.tables.proofs.laws.Table.{Table, length-put}
 use Rattle.tables.proofs.laws.View.{up-to-next, length-up-to, length-flat}
 use Rattle.tables.proofs.laws.Append.{put-next}
-
--- the first i numbers of a table are set to z
-pub record Cleared {A : Type 0} (z : A) (size i : ℕ) (now : List A) : Type 0 where
-  pub length-is : length now ≡ size
-  pub within : i ≤ size
-  pub front : take i now ≡ replicate i z
-
-module _ {A : Type 0} {z : A} where
-  pub clear-start : (now : List A) → Cleared z (length now) 0 now
-  clear-start now = record { length-is = refl; within = omega arith; front = refl }
-
-  pub clear-next : {size i : ℕ} {now : List A} → Cleared z size i now → i < size → Cleared z size (i + 1) (set now i z)
-  clear-next {size} {i} {now} c h = record {
-    length-is = length-set now i z ∙ c .length-is;
-    within = omega arith;
-    front = rw (add-one i, take-suc-set now i z (rw (c .length-is) h), c .front, replicate-append-replicate i 1 z, add-one i);
-  }
-
-  pub clear-end : {size i : ℕ} {now : List A} → Cleared z size i now → size ≤ i → now ≡ replicate size z
-  clear-end {size} {i} {now} c h =
-      let e : i ≡ size = omega arith in
-      sym (take-all i now (rw (c .length-is) h)) ∙ c .front ∙ rw e
 
 -- of n things f 0, f 1, .. the first k stand in a table, and z after them
 pub record Filled {A B : Type 0} (w : ℕ) (cells : A → List B) (z : B) (f : ℕ → A) (size n k : ℕ) (now : List B) : Type 0 where

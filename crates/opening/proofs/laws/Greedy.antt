@@ -7,6 +7,7 @@ use native.Mathlib.Decide.{decLe}
 use native.Mathlib.Omega.{arith}
 use lib.ListN.{length, getD, take}
 use lib.Seq.{getD-take}
+use Rattle.intake.specs.Cells.{Cells}
 use Rattle.intake.specs.Search.{free}
 use Rattle.intake.specs.Causes.{vertex, has}
 use Rattle.opening.specs.Colours.{taken, colours, colourOf}
@@ -17,7 +18,7 @@ use Rattle.opening.specs.Greedy.{Had, Greedy}
 
 -- ---- a neighbour by its places and by the test of the search
 
-module _ (E painted : List ℕ) (v x : ℕ) (colour : ℕ → ℕ) (same : (u : ℕ) → u < v → getD painted u 0 ≡ colour u) where
+module _ (E : Cells) (painted : List ℕ) (v x : ℕ) (colour : ℕ → ℕ) (same : (u : ℕ) → u < v → getD painted u 0 ≡ colour u) where
   had-taken : Had E colour v x → taken E painted v x ≡ true
   had-taken h =
       let n = h .neighbour in
@@ -43,7 +44,7 @@ module _ (E painted : List ℕ) (v x : ℕ) (colour : ℕ → ℕ) (same : (u : 
 
 -- ---- the colours follow the rule
 
-module _ (E : List ℕ) (n : ℕ) where
+module _ (E : Cells) (n : ℕ) where
   abbrev given : ℕ → ℕ
   given v = getD (colours E n) v 0
 
@@ -64,7 +65,7 @@ module _ (E : List ℕ) (n : ℕ) where
 
 -- ---- and nothing else does
 
-module _ (E : List ℕ) (n : ℕ) (colour : ℕ → ℕ) (g : Greedy E n colour) where
+module _ (E : Cells) (n : ℕ) (colour : ℕ → ℕ) (g : Greedy E n colour) where
   -- so many colours are in use before v at most
   greedy-below : (b v : ℕ) → v < b → v < n → colour v ≤ v
   greedy-below zero v l h = absurd (omega arith)
@@ -82,11 +83,11 @@ module _ (E : List ℕ) (n : ℕ) (colour : ℕ → ℕ) (g : Greedy E n colour)
       out false t = refl
 
 -- a list of colours that follow the rule of Algorithm 2 is the list of colours (000, Algorithm 2 has one result)
-pub greedy-only : (E : List ℕ) (n : ℕ) (cs : List ℕ) → length cs ≡ n → Greedy E n (λ v. getD cs v 0) → cs ≡ colours E n
+pub greedy-only : (E : Cells) (n : ℕ) (cs : List ℕ) → length cs ≡ n → Greedy E n (λ v. getD cs v 0) → cs ≡ colours E n
 greedy-only E n cs s g = colours-only E n cs s (λ v h. sym (greedy-free E n (λ v. getD cs v 0) g (take v cs) v h (λ u l. getD-take v cs u 0 l)))
 
 -- two colourings that follow it agree on all vertices
-pub greedy-same : (E : List ℕ) (n : ℕ) (colour : ℕ → ℕ) → Greedy E n colour → (v : ℕ) → v < n → colour v ≡ getD (colours E n) v 0
+pub greedy-same : (E : Cells) (n : ℕ) (colour : ℕ → ℕ) → Greedy E n colour → (v : ℕ) → v < n → colour v ≡ getD (colours E n) v 0
 greedy-same E n colour g v h = upto (suc v) v (omega arith) h
   where
     upto : (b v : ℕ) → v < b → v < n → colour v ≡ getD (colours E n) v 0

@@ -2,14 +2,17 @@
 use mathlib.Core.Path.{_≡_, sym, _∙_}
 use mathlib.Core.Logic.{inl, inr}
 use mathlib.Core.List.{List}
-use Prim.Native.Nat.{ℕ, _+_, _*_, _≤_, _<_}
+use Prim.Native.Nat.{ℕ, _+_, _*_, _/_, _%_, _≤_, _<_}
+use native.Mathlib.Nat.{add-zero, add-assoc}
 use native.Mathlib.Omega.{arith}
 use lib.ListN.{length, getD, replicate, length-replicate, getD-replicate, List·getD-eq-default}
 use Rattle.split.proofs.laws.Places.{le-or-lt}
 use Rattle.chain.specs.Chain.{Indexed, pushed}
 use Rattle.chain.proofs.laws.Pushed.{pushed-length}
 use Rattle.chain.proofs.laws.Index.{indexed-none, indexed-push-one}
-use Rattle.opening.specs.Scratch.{linksAt, paintLength, slot, Plain, Filled, Clear}
+use Rattle.intake.specs.Cells.{Cells}
+use Rattle.intake.specs.Causes.{vertex}
+use Rattle.opening.specs.Scratch.{linksAt, paintLength, slot, Plain, Filled, Clear, Moderate, Given}
 
 -- numbers behind the links do not matter to the index
 pub indexed-kept : {key : ℕ → ℕ} {n base : ℕ} {index next : List ℕ} → length next ≡ length index → ((j : ℕ) → j < base + n → getD next j 0 ≡ getD index j 0) → Indexed key n base index → Indexed key n base next
@@ -26,29 +29,41 @@ zeros-count n = sym (length-replicate n 0)
 pub zeros-clear : (n : ℕ) → n ≡ paintLength → Clear (replicate n 0)
 zeros-clear n e = record { size = length-replicate n 0 ∙ e; zeros = replicate-zero n }
 
-zeros-filled : (n : ℕ) (E : List ℕ) → linksAt + length E ≤ n → Filled E 0 (replicate n 0)
+zeros-filled : (n : ℕ) (E : Cells) → linksAt + 4 * E .count ≤ n → Filled E 0 (replicate n 0)
 zeros-filled n E h =
     record {
       room = rw length-replicate h;
       index = indexed-none (slot E) linksAt (replicate n 0) (rw length-replicate (omega arith)) (λ v l. replicate-zero n v);
     }
 
-pub zeros-small : (E : List ℕ) → length E ≤ 40000 → Filled E 0 (replicate 60000 0)
-zeros-small E h = zeros-filled 60000 E (omega arith)
+pub given-zeros : {coordinates n : ℕ} {E : Cells} → Moderate coordinates (E .count) → linksAt + 4 * E .count ≤ n → Given coordinates E (replicate n 0)
+given-zeros {n = n} {E} m h = record { moderate = m; empty = zeros-filled n E h }
 
-pub zeros-large : (E : List ℕ) → length E ≤ 400000 → Filled E 0 (replicate 420000 0)
-zeros-large E h = zeros-filled 420000 E (omega arith)
+pub given-small : {coordinates : ℕ} {E : Cells} → Moderate coordinates (E .count) → E .count ≤ 10000 → Given coordinates E (replicate 60000 0)
+given-small m h = given-zeros {n = 60000} m (omega arith)
+
+pub given-large : {coordinates : ℕ} {E : Cells} → Moderate coordinates (E .count) → Given coordinates E (replicate 420000 0)
+given-large m = given-zeros {n = 420000} m (omega (arith, m .few-elements))
 
 -- ---- one corner slot more
 
-pub filling-next : {vertices : ℕ} {E index next : List ℕ} {i key : ℕ} → Plain vertices E → Filled E i index → i < length E → key ≡ slot E i → next ≡ pushed index linksAt i key → Filled E (i + 1) next
-filling-next {E = E} {i = i} x f h k e =
-    rw (e, k)
+slot-at : (E : Cells) (k q : ℕ) → q < 4 → slot E (4 * k + q) ≡ vertex E k q
+slot-at E k q h =
+    let j : (4 * k + q) / 4 ≡ k = omega arith in
+    let p : (4 * k + q) % 4 ≡ q = omega arith in
+    rw (j, p)
+
+pub filling-start : {E : Cells} {index : List ℕ} (k : ℕ) → Filled E (4 * k) index → Filled E (4 * k + 0) index
+filling-start k f = rw add-zero f
+
+pub filling-next : {vertices : ℕ} {E : Cells} {index next : List ℕ} (k q : ℕ) {key : ℕ} → Plain vertices E → Filled E (4 * k + q) index → k < E .count → q < 4 → key ≡ vertex E k q → next ≡ pushed index linksAt (4 * k + q) key → Filled E (4 * k + (q + 1)) next
+filling-next {E = E} k q x f h l e g =
+    rw (g, e, ← slot-at E k q l, ← add-assoc (4 * k) q 1)
     (record {
       room = rw pushed-length (f .room);
-      index = indexed-push-one (f .index) (omega (arith, x .there i h, x .most)) (omega (arith, f .room)) (omega (arith, x .few));
+      index = indexed-push-one (f .index) (omega (arith, slot-at E k q l, x .there k q h l, x .most)) (omega (arith, f .room)) (omega (arith, x .few));
     })
 
 -- the four slots of element k are pushed
-pub filling-end : {E index : List ℕ} {i : ℕ} (k : ℕ) → Filled E i index → i ≤ 4 * k + 4 → 4 * k + 4 ≤ i → Filled E (4 * (k + 1)) index
-filling-end {i = i} k f h l = let e : 4 * (k + 1) ≡ i = omega arith in rw e f
+pub filling-end : {E : Cells} {index : List ℕ} (k q : ℕ) → Filled E (4 * k + q) index → q ≤ 4 → 4 ≤ q → Filled E (4 * (k + 1)) index
+filling-end k q f h l = let e : 4 * (k + 1) ≡ 4 * k + q = omega arith in rw e f

@@ -2,10 +2,11 @@
 use mathlib.Core.Path.{_≡_, refl, sym, _∙_}
 use mathlib.Core.Bool.{Bool, true, false, _||_}
 use mathlib.Core.List.{List}
-use Prim.Native.Nat.{ℕ, _/_}
+use Prim.Native.Nat.{ℕ, _/_, _≤_}
 use native.Mathlib.Omega.{arith}
 use lib.ListN.{length}
 use lib.Ieee.{Float}
+use Rattle.intake.specs.Cells.{Cells, quads}
 use Rattle.intake.specs.declared.answer.Found.{Found}
 use Rattle.intake.specs.declared.answer.Found.the-variants.{At, Nowhere}
 use Rattle.intake.specs.declared.answer.Verdict.{Verdict}
@@ -14,8 +15,8 @@ use Rattle.intake.specs.Search.{first}
 use Rattle.intake.specs.Causes.{wrongInput, wrongLent, noRoom, unusable, missing, double, same, third}
 use Rattle.intake.specs.Verdict.{when, at, fitting, plain}
 use Rattle.opening.specs.Opening.{late, judged}
-use Rattle.opening.specs.Scratch.{Clear, Ready, Plain, Coloured, Sifted, Judged, Settled}
-use Rattle.opening.proofs.laws.Passed.{plain-passed, roomy-passed}
+use Rattle.opening.specs.Scratch.{Moderate, Clear, Ready, Plain, Coloured, Sifted, Judged, Passing, Settled}
+use Rattle.opening.proofs.laws.Passed.{plain-cells, few-passed, roomy-passed}
 use Rattle.opening.proofs.laws.Verdicts.{garish-last}
 
 clash : {X : Type 0} {n p : ℕ} {r : Verdict} → r ≡ Refused n p → r ≡ Passed → X
@@ -65,18 +66,18 @@ module _ (f e p r w : ℕ) where
       when-refused (wrongInput f e || wrongLent p r w) 1 _ _ k q (when-refused (noRoom (f / 3) (e / 4) p r w) 2 Passed next k q (λ h. clash h refl))
 
 -- coordinates and vertex numbers that passed
-record Numbers (F : List Float) (E : List ℕ) : Type 0 where
+record Numbers (F : List Float) (E : Cells) : Type 0 where
   usable : first (unusable F) (length F / 3) ≡ Nowhere
-  there : first (missing (length F / 3) E) (length E / 4) ≡ Nowhere
-  single : first (double E) (length E / 4) ≡ Nowhere
+  there : first (missing (length F / 3) E) (E .count) ≡ Nowhere
+  single : first (double E) (E .count) ≡ Nowhere
 
-module _ (F : List Float) (E : List ℕ) where
+module _ (F : List Float) (E : Cells) where
   numbers-passed : plain F E Passed ≡ Passed → Numbers F E
   unfolding plain
   numbers-passed h =
-      let (a, b) = at-passed (first (unusable F) (length F / 3)) 3 (at (first (missing (length F / 3) E) (length E / 4)) 4 (at (first (double E) (length E / 4)) 5 Passed)) h in
-      let (c, d) = at-passed (first (missing (length F / 3) E) (length E / 4)) 4 (at (first (double E) (length E / 4)) 5 Passed) b in
-      record { usable = a; there = c; single = at-passed (first (double E) (length E / 4)) 5 Passed d .0 }
+      let (a, b) = at-passed (first (unusable F) (length F / 3)) 3 (at (first (missing (length F / 3) E) (E .count)) 4 (at (first (double E) (E .count)) 5 Passed)) h in
+      let (c, d) = at-passed (first (missing (length F / 3) E) (E .count)) 4 (at (first (double E) (E .count)) 5 Passed) b in
+      record { usable = a; there = c; single = at-passed (first (double E) (E .count)) 5 Passed d .0 }
 
   numbers-next : Numbers F E → (next : Verdict) → plain F E next ≡ next
   unfolding plain
@@ -86,32 +87,48 @@ module _ (F : List Float) (E : List ℕ) where
   unfolding plain
   numbers-refused next k q =
       at-refused (first (unusable F) (length F / 3)) 3 _ _ k q
-      (at-refused (first (missing (length F / 3) E) (length E / 4)) 4 _ _ k q (at-refused (first (double E) (length E / 4)) 5 Passed next k q (λ h. clash h refl)))
+      (at-refused (first (missing (length F / 3) E) (E .count)) 4 _ _ k q (at-refused (first (double E) (E .count)) 5 Passed next k q (λ h. clash h refl)))
 
 -- ---- tests 6 to 8
 
 -- the verdict of tests 6 and 7 stands where it refuses
-pub judged-refused : {vertices n p : ℕ} {E index paint : List ℕ} {r : Verdict} → Sifted E r index → r ≡ Refused n p → Clear paint → Judged vertices E (Refused n p) paint
+pub judged-refused : {vertices n p : ℕ} {E : Cells} {index paint : List ℕ} {r : Verdict} → Sifted E r index → r ≡ Refused n p → Clear paint → Judged vertices E (Refused n p) paint
 unfolding late
 judged-refused {vertices} {n} {p} {E} s e c =
     record {
-      answer = sym (at-refused (first (same E) (length E / 4)) 6 _ _ n p (at-refused (first (third E) (length E / 4)) 7 Passed _ n p (λ h. clash h refl)) (sym (s .answer) ∙ e));
+      answer = sym (at-refused (first (same E) (E .count)) 6 _ _ n p (at-refused (first (third E) (E .count)) 7 Passed _ n p (λ h. clash h refl)) (sym (s .answer) ∙ e));
       size = c .size;
       painted = λ h. clash refl h;
     }
 
 -- and number 8 is next where they pass
-pub sifted-ready : {E index : List ℕ} {r : Verdict} → Sifted E r index → r ≡ Passed → Ready E index
+pub sifted-ready : {E : Cells} {index : List ℕ} {r : Verdict} → Sifted E r index → r ≡ Passed → Ready E index
 sifted-ready s = s .ready
 
-pub judged-coloured : {vertices : ℕ} {E index paint : List ℕ} {f : Found} {q r : Verdict} → Sifted E q index → q ≡ Passed → Coloured vertices E f paint → r ≡ at f 8 Passed → Judged vertices E r paint
+pub judged-coloured : {vertices : ℕ} {E : Cells} {index paint : List ℕ} {f : Found} {q r : Verdict} → Sifted E q index → q ≡ Passed → Coloured vertices E f paint → r ≡ at f 8 Passed → Judged vertices E r paint
 judged-coloured {vertices} {E} {f = f} s p c e =
-    let (a, b) = at-passed (first (same E) (length E / 4)) 6 (at (first (third E) (length E / 4)) 7 Passed) (sym (s .answer) ∙ p) in
+    let (a, b) = at-passed (first (same E) (E .count)) 6 (at (first (third E) (E .count)) 7 Passed) (sym (s .answer) ∙ p) in
     record {
-      answer = e ∙ rw (c .answer) (sym (garish-last E vertices a (at-passed (first (third E) (length E / 4)) 7 Passed b .0)));
+      answer = e ∙ rw (c .answer) (sym (garish-last E vertices a (at-passed (first (third E) (E .count)) 7 Passed b .0)));
       size = c .size;
       painted = λ h. c .painted (at-passed f 8 Passed (sym e ∙ h) .0);
     }
+
+-- ---- tests 3 to 8
+
+module _ (F : List Float) (E : Cells) where
+  pub passing-refused : {n p : ℕ} {paint : List ℕ} {r : Verdict} → r ≡ plain F E Passed → r ≡ Refused n p → Clear paint → Passing F E (Refused n p) paint
+  passing-refused {n} {p} e f s = record { answer = sym (numbers-refused F E _ n p (sym e ∙ f)); size = s .size; plain = λ h. clash refl h; painted = λ h. clash refl h }
+
+  module _ (m : Moderate (length F) (E .count)) {q : Verdict} (e : q ≡ plain F E Passed) (passed : q ≡ Passed) where
+    numbers : Numbers F E
+    numbers = numbers-passed F E (sym e ∙ passed)
+
+    pub plain-given : Plain (length F / 3) E
+    plain-given = plain-cells (length F / 3) E (m .few-elements) (omega (arith, m .few-coordinates)) (numbers .there) (numbers .single)
+
+    pub passing-judged : {r : Verdict} {paint : List ℕ} → Judged (length F / 3) E r paint → Passing F E r paint
+    passing-judged j = record { answer = j .answer ∙ sym (numbers-next F E numbers _); size = j .size; plain = λ h. plain-given; painted = j .painted }
 
 -- ---- all tests
 
@@ -121,35 +138,25 @@ module _ (F : List Float) (E : List ℕ) (points records rows : ℕ) where
   unfolding judged
   settled-lengths {n} {p} e s = record { answer = sym (lengths-refused (length F) (length E) points records rows _ n p e); size = s .size; storable = λ h. clash refl h }
 
-  pub settled-numbers : {n p : ℕ} {paint : List ℕ} → fitting (length F) (length E) points records rows Passed ≡ Passed → plain F E Passed ≡ Refused n p → Clear paint
-      → Settled F E points records rows (Refused n p) paint
-  unfolding judged
-  settled-numbers {n} {p} l e s =
-      record {
-        answer = sym (rw (lengths-next (length F) (length E) points records rows (lengths-passed (length F) (length E) points records rows l)) (numbers-refused F E _ n p e));
-        size = s .size;
-        storable = λ h. clash refl h;
-      }
-
-  module _ (l : fitting (length F) (length E) points records rows Passed ≡ Passed) (e : plain F E Passed ≡ Passed) where
+  module _ {q : Verdict} (e : q ≡ fitting (length F) (length E) points records rows Passed) (passed : q ≡ Passed) where
     lengths : Lengths (length F) (length E) points records rows
-    lengths = lengths-passed (length F) (length E) points records rows l
+    lengths = lengths-passed (length F) (length E) points records rows (sym e ∙ passed)
 
     right-input : wrongInput (length F) (length E) ≡ false
     right-input = left-false (wrongInput (length F) (length E)) (wrongLent points records rows) (lengths .input)
 
-    -- what the tests on the elements rely on
-    pub plain-judged : Plain (length F / 3) E
-    plain-judged = plain-passed (length F) E right-input (numbers-passed F E e .there) (numbers-passed F E e .single)
+    -- what the other tests rely on
+    pub moderate : Moderate (length F) (quads E .count)
+    moderate = let (f, e) = few-passed (length F) (length E) right-input in record { few-coordinates = f; few-elements = e }
 
-    pub settled-judged : {r : Verdict} {paint : List ℕ} → Judged (length F / 3) E r paint → Settled F E points records rows r paint
+    pub settled-given : {r : Verdict} {paint : List ℕ} → Passing F (quads E) r paint → Settled F E points records rows r paint
     unfolding judged
-    settled-judged {r} {paint} j =
+    settled-given {r} {paint} j =
         record {
-          answer = j .answer ∙ sym (rw (lengths-next (length F) (length E) points records rows lengths, numbers-next F E (numbers-passed F E e)) refl);
+          answer = j .answer ∙ sym (lengths-next (length F) (length E) points records rows lengths _);
           size = j .size;
           storable = λ h. record {
-            plain = plain-judged;
+            plain = j .plain h;
             size = j .size;
             painted = j .painted h;
             room = roomy-passed (length F) (length E) points records rows right-input (lengths .room);

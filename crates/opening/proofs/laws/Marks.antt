@@ -12,6 +12,7 @@ use lib.Seq.{set-out, getD-set-same, getD-set-other}
 use Rattle.chain.specs.Chain.{latest}
 use Rattle.chain.proofs.laws.Walk.{latest-between, latest-below, latest-some}
 use Rattle.chain.proofs.laws.Index.{next-link}
+use Rattle.intake.specs.Cells.{Cells}
 use Rattle.intake.specs.Causes.{vertex, has}
 use Rattle.opening.specs.Colours.{taken, colours}
 use Rattle.opening.specs.Scratch.{linksAt, slot, colourIn, Plain, Ready, Painted, Flags, marked, markedAll, Marks}
@@ -73,34 +74,34 @@ module _ (paint : List ℕ) (v u : ℕ) (flags : List ℕ) where
 -- ---- the four marks of an element
 
 -- its vertices are there
-pub vertex-few : {vertices r : ℕ} {E : List ℕ} (k q : ℕ) → Plain vertices E → r ≡ vertex E k q → 4 * k + 3 < length E → q ≤ 3 → r < 20000
-vertex-few k q p e h l = omega (arith, p .there (4 * k + q) (omega arith), p .most)
+pub vertex-few : {vertices r : ℕ} {E : Cells} (k q : ℕ) → Plain vertices E → r ≡ vertex E k q → k < E .count → q ≤ 3 → r < 20000
+vertex-few k q p e h l = omega (arith, p .there k q h (omega arith), p .most)
 
-module _ (E paint : List ℕ) (v k : ℕ) where
+module _ (E : Cells) (paint : List ℕ) (v k : ℕ) where
   -- what each of them keeps, all four keep
   marked-all : (P : List ℕ → Type 0) → ((q : ℕ) → q < 4 → (flags : List ℕ) → P flags → P (marked paint v (vertex E k q) flags)) → (flags : List ℕ) → P flags → P (markedAll E paint v k flags)
   unfolding markedAll
   marked-all P step flags p = step 3 (omega arith) _ (step 2 (omega arith) _ (step 1 (omega arith) _ (step 0 (omega arith) flags p)))
 
 -- the flags show the colours of the smaller vertices of element k
-abbrev Shown : List ℕ → List ℕ → ℕ → ℕ → List ℕ → Type 0
+abbrev Shown : Cells → List ℕ → ℕ → ℕ → List ℕ → Type 0
 Shown E paint v k flags = (q : ℕ) → q < 4 → vertex E k q < v → getD flags (colourIn paint (vertex E k q)) 0 ≡ 1
 
 -- there are 64 flags, and each that is set shows the colour of a smaller neighbour
-record Sound (E : List ℕ) (v : ℕ) (flags : List ℕ) : Type 0 where
+record Sound (E : Cells) (v : ℕ) (flags : List ℕ) : Type 0 where
   size : length flags ≡ 64
   only : (c : ℕ) → (getD flags c 0 ≡ 0 → ⊥) → taken E (colours E v) v c ≡ true
 
 -- a walk that is at `at`: the slots of v from there on are behind it
-pub record Walked (E paint : List ℕ) (v at : ℕ) (flags : List ℕ) : Type 0 where
-  pub below : at ≤ length E
+pub record Walked (E : Cells) (paint : List ℕ) (v at : ℕ) (flags : List ℕ) : Type 0 where
+  pub below : at ≤ 4 * E .count
   here : 0 < at → slot E (at - 1) ≡ v
   sound : Sound E v flags
-  past : (i : ℕ) → at ≤ i → i < length E → slot E i ≡ v → Shown E paint v (i / 4) flags
+  past : (i : ℕ) → at ≤ i → i < 4 * E .count → slot E i ≡ v → Shown E paint v (i / 4) flags
 
 -- the element at which the walk is holds v, so its marks are sound, and it is shown
-module _ (E paint : List ℕ) (v k : ℕ) (painted : Painted E v paint) where
-  sound-step : k < length E / 4 → has E k v ≡ true → (flags : List ℕ) → Sound E v flags → Sound E v (markedAll E paint v k flags)
+module _ (E : Cells) (paint : List ℕ) (v k : ℕ) (painted : Painted E v paint) where
+  sound-step : k < E .count → has E k v ≡ true → (flags : List ℕ) → Sound E v flags → Sound E v (markedAll E paint v k flags)
   sound-step there holds = marked-all E paint v k (Sound E v) (λ q h f r. record { size = marked-length paint v (vertex E k q) f ∙ r .size; only = λ c d. go q h f r c d (decLt (vertex E k q) v) (ℕ-discrete (colourIn paint (vertex E k q)) c) })
     where
       go : (q : ℕ) → q < 4 → (f : List ℕ) → Sound E v f → (c : ℕ) → (getD (marked paint v (vertex E k q) f) c 0 ≡ 0 → ⊥) → Dec (vertex E k q < v) → Dec (colourIn paint (vertex E k q) ≡ c) → taken E (colours E v) v c ≡ true
@@ -129,32 +130,26 @@ module _ (E paint : List ℕ) (v k : ℕ) (painted : Painted E v paint) where
       go (suc (suc (suc (suc q)))) h l = absurd (omega arith)
 
 -- what is shown stays
-shown-kept : (E paint : List ℕ) (v k j : ℕ) (flags : List ℕ) → Shown E paint v k flags → Shown E paint v k (markedAll E paint v j flags)
+shown-kept : (E : Cells) (paint : List ℕ) (v k j : ℕ) (flags : List ℕ) → Shown E paint v k flags → Shown E paint v k (markedAll E paint v j flags)
 shown-kept E paint v k j flags s q h l = marked-all E paint v j (λ f. getD f (colourIn paint (vertex E k q)) 0 ≡ 1) (λ p b f e. marked-keeps paint v (vertex E j p) f _ e) flags (s q h l)
 
 -- ---- the walk
 
--- slot i is at place i % 4 of element i / 4
-slot-at : (E : List ℕ) (i : ℕ) → vertex E (i / 4) (i % 4) ≡ slot E i
-slot-at E i =
-    let e : 4 * (i / 4) + i % 4 ≡ i = omega arith in
-    rw e
+slot-has : (E : Cells) (v i : ℕ) → slot E i ≡ v → has E (i / 4) v ≡ true
+slot-has E v i e = rw e at (has-place E (i / 4) (i % 4) (omega arith))
 
-slot-has : (E : List ℕ) (v i : ℕ) → slot E i ≡ v → has E (i / 4) v ≡ true
-slot-has E v i e = rw (slot-at E i ∙ e) at (has-place E (i / 4) (i % 4) (omega arith))
-
-module _ {E paint : List ℕ} {v : ℕ} where
+module _ {E : Cells} {paint : List ℕ} {v : ℕ} where
   -- what is left of the walk are the places of v below n
-  walked-to : (n at : ℕ) {flags : List ℕ} → n ≤ length E → at ≡ latest (slot E) v n → Sound E v flags → ((i : ℕ) → n ≤ i → i < length E → slot E i ≡ v → Shown E paint v (i / 4) flags) → Walked E paint v at flags
+  walked-to : (n at : ℕ) {flags : List ℕ} → n ≤ 4 * E .count → at ≡ latest (slot E) v n → Sound E v flags → ((i : ℕ) → n ≤ i → i < 4 * E .count → slot E i ≡ v → Shown E paint v (i / 4) flags) → Walked E paint v at flags
   walked-to n at {flags} h e s past = record { below = omega (arith, latest-below (slot E) v n); here = λ l. latest-some (slot E) v n (at - 1) (omega arith) .1; sound = s; past = λ i l m k. go i l m k (decLt i n) }
     where
-      go : (i : ℕ) → at ≤ i → i < length E → slot E i ≡ v → Dec (i < n) → Shown E paint v (i / 4) flags
+      go : (i : ℕ) → at ≤ i → i < 4 * E .count → slot E i ≡ v → Dec (i < n) → Shown E paint v (i / 4) flags
       go i l m k (yes b) = absurd (latest-between (slot E) v n i (omega arith) b k)
       go i l m k (no b) = past i (omega arith) m k
 
   -- at the head nothing is behind the walk, and no flag is set
   pub walked-start : {vertices at : ℕ} {index flags : List ℕ} → Plain vertices E → Ready E index → v < vertices → at ≡ getD index v 0 → flags ≡ Flags → Walked E paint v at flags
-  walked-start {at = at} {flags} p r h e f = walked-to (length E) at (omega arith) (e ∙ r .index .heads v (omega (arith, p .most))) (record { size = ap length f; only = λ c d. absurd (d (ap (λ l. getD l c 0) f ∙ clear c (decLt c 64))) }) (λ i l m k. absurd (omega arith))
+  walked-start {at = at} {flags} p r h e f = walked-to (4 * E .count) at (omega arith) (e ∙ r .index .heads v (omega (arith, p .most))) (record { size = ap length f; only = λ c d. absurd (d (ap (λ l. getD l c 0) f ∙ clear c (decLt c 64))) }) (λ i l m k. absurd (omega arith))
     where
       clear : (c : ℕ) → Dec (c < 64) → getD Flags c 0 ≡ 0
       clear c (yes l) = getD-replicate 64 c 0 0 l
@@ -168,13 +163,13 @@ module _ {E paint : List ℕ} {v : ℕ} where
     pub walked-step : {next : ℕ} {after : List ℕ} → next ≡ getD index (linksAt + (at - 1)) 0 → after ≡ markedAll E paint v ((at - 1) / 4) flags → Walked E paint v next after
     walked-step {next} e f = rw f (walked-to (at - 1) next (omega (arith, w .below)) (e ∙ next-link (r .index) (omega (arith, w .below)) (w .here more)) (sound-step E paint v ((at - 1) / 4) c there holds flags (w .sound)) (λ i l m k. go i l m k (ℕ-discrete i (at - 1))))
       where
-        there : (at - 1) / 4 < length E / 4
-        there = omega (arith, w .below, p .whole)
+        there : (at - 1) / 4 < E .count
+        there = omega (arith, w .below)
 
         holds : has E ((at - 1) / 4) v ≡ true
         holds = slot-has E v (at - 1) (w .here more)
 
-        go : (i : ℕ) → at - 1 ≤ i → i < length E → slot E i ≡ v → Dec (i ≡ at - 1) → Shown E paint v (i / 4) (markedAll E paint v ((at - 1) / 4) flags)
+        go : (i : ℕ) → at - 1 ≤ i → i < 4 * E .count → slot E i ≡ v → Dec (i ≡ at - 1) → Shown E paint v (i / 4) (markedAll E paint v ((at - 1) / 4) flags)
         go i l m k (yes e) = rw e (shown-step E paint v ((at - 1) / 4) c flags (w .sound .size))
         go i l m k (no d) = shown-kept E paint v (i / 4) ((at - 1) / 4) flags (w .past i (omega arith) m k)
 
@@ -190,9 +185,10 @@ module _ {E paint : List ℕ} {v : ℕ} where
           let q = has-some E (n .element) v (n .holds) in
           let i = 4 * (n .element) + q .0 in
           let e : i / 4 ≡ n .element = omega (arith, q .1) in
+          let place : i % 4 ≡ q .0 = omega (arith, q .1) in
           let u = vertex E (n .element) (n .place) in
           let k : colourIn paint u ≡ d = c .colour u ∙ n .colour in
-          rw (← k) ((rw e at (w .past i (omega arith) (omega (arith, p .whole, n .there, q .1)) (q .2))) (n .place) (n .four) (n .less))
+          rw (← k) ((rw e at (w .past i (omega arith) (omega (arith, n .there, q .1)) (rw (e, place) (q .2)))) (n .place) (n .four) (n .less))
 
       none : (d : ℕ) → getD flags d 0 ≡ 0 → (b : Bool) → taken E (colours E v) v d ≡ b → b ≡ false
       none d z true t = absurd (omega (arith, met d (taken-some E (colours E v) v d t)))

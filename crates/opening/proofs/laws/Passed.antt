@@ -10,6 +10,7 @@ use lib.Ieee.{Float, nan, inf, fin}
 use borrow.Author.Tests.{ltb-false, leb-true, leb-false, le-leb, eqb-true, eqb-false, not-false}
 use Rattle.split.specs.Magnitude.{Bounded}
 use Rattle.tables.specs.Layout.{roomOf}
+use Rattle.intake.specs.Cells.{Cells}
 use Rattle.intake.specs.declared.answer.Found.the-variants.{Nowhere}
 use Rattle.intake.specs.Search.{first}
 use Rattle.intake.specs.Causes.{wrongInput, noRoom, usable, vertex, missing, twice, double}
@@ -43,6 +44,9 @@ measured coordinates elements h =
       vertices = ltb-false _ _ vertices;
       most = ltb-false _ _ most;
     }
+
+pub few-passed : (coordinates elements : ℕ) → wrongInput coordinates elements ≡ false → (coordinates ≤ 60000) × (elements / 4 ≤ 100000)
+few-passed coordinates elements w = let lengths = measured coordinates elements w in (lengths .vertices, omega (arith, lengths .most))
 
 pub roomy-passed :
     (coordinates elements points records rows : ℕ) →
@@ -83,7 +87,7 @@ each-of-four P a b c d (suc (suc (suc zero))) h = d
 each-of-four P a b c d (suc (suc (suc (suc q)))) h = absurd (omega arith)
 
 -- what tests 4 and 5 say of each place of an element
-none-missing : (vertices : ℕ) (E : List ℕ) (k : ℕ) → missing vertices E k ≡ false → (q : ℕ) → q < 4 → vertex E k q < vertices
+none-missing : (vertices : ℕ) (E : Cells) (k : ℕ) → missing vertices E k ≡ false → (q : ℕ) → q < 4 → vertex E k q < vertices
 unfolding missing
 none-missing vertices E k h =
     let (a, h1) = neither _ _ h in
@@ -115,20 +119,24 @@ none-twice f h p q P Q =
     (row 3 (apart-back ad) (apart-back bd) (apart-back cd) (λ e. refl))
     p P
 
--- slot i is place i % 4 of element i / 4
-pub plain-passed :
-    (coordinates : ℕ) (E : List ℕ) →
-    wrongInput coordinates (length E) ≡ false →
-    first (missing (coordinates / 3) E) (length E / 4) ≡ Nowhere →
-    first (double E) (length E / 4) ≡ Nowhere →
-    Plain (coordinates / 3) E
-plain-passed coordinates E w m d =
-    let lengths = measured coordinates (length E) w in
-    let slot : (i : ℕ) → 4 * (i / 4) + i % 4 ≡ i = λ i. omega arith in
-    record {
-      whole = omega arith;
-      few = omega arith;
-      most = omega arith;
-      there = λ i h. rw (slot i) at (none-missing (coordinates / 3) E (i / 4) (first-none (missing (coordinates / 3) E) (length E / 4) m (i / 4) (omega arith)) (i % 4) (omega arith));
-      apart = λ k p q h. none-twice (vertex E k) (first-none (double E) (length E / 4) d k h) p q;
-    }
+-- what tests 4 and 5 say of all elements, however many there are
+pub there-passed : (vertices : ℕ) (E : Cells) → first (missing vertices E) (E .count) ≡ Nowhere → (k q : ℕ) → k < E .count → q < 4 → vertex E k q < vertices
+there-passed vertices E m k q h = none-missing vertices E k (first-none (missing vertices E) (E .count) m k h) q
+
+pub apart-passed : (E : Cells) → first (double E) (E .count) ≡ Nowhere → (k p q : ℕ) → k < E .count → p < 4 → q < 4 → vertex E k p ≡ vertex E k q → p ≡ q
+apart-passed E d k p q h = none-twice (vertex E k) (first-none (double E) (E .count) d k h) p q
+
+-- elements of which there are few enough, and few enough vertices
+pub plain-cells :
+    (vertices : ℕ) (E : Cells) →
+    E .count ≤ 100000 →
+    vertices ≤ 20000 →
+    first (missing vertices E) (E .count) ≡ Nowhere →
+    first (double E) (E .count) ≡ Nowhere →
+    Plain vertices E
+plain-cells vertices E f v m d = record {
+  few = f;
+  most = v;
+  there = there-passed vertices E m;
+  apart = apart-passed E d;
+}

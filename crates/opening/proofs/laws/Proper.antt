@@ -7,6 +7,7 @@ use native.Mathlib.Decide.{decLe}
 use native.Mathlib.Omega.{arith}
 use lib.ListN.{length, getD, take}
 use lib.Seq.{take-suc, take-all}
+use Rattle.intake.specs.Cells.{Cells}
 use Rattle.intake.specs.Search.{free}
 use Rattle.intake.specs.Causes.{vertex}
 use Rattle.opening.specs.Colours.{taken, colours, colourOf, largest}
@@ -14,9 +15,9 @@ use Rattle.opening.proofs.laws.Free.{free-not}
 pub use Rattle.opening.proofs.laws.Colours.{colours-length, colours-at}
 use Rattle.opening.proofs.laws.Colours.{Neighbour, colour-most, taken-has, has-place}
 
-module _ (E : List ℕ) where
+module _ (E : Cells) where
   -- the larger of two vertices of an element looked at the smaller
-  apart : (j p q : ℕ) → j < length E / 4 → p < 4 → q < 4 → vertex E j p < vertex E j q → colourOf E (vertex E j p) ≡ colourOf E (vertex E j q) → ⊥
+  apart : (j p q : ℕ) → j < E .count → p < 4 → q < 4 → vertex E j p < vertex E j q → colourOf E (vertex E j p) ≡ colourOf E (vertex E j q) → ⊥
   apart j p q l hp hq less same = true≢false (sym (taken-has E (colours E w) w (colourOf E w) met) ∙ free-not (taken E (colours E w) w) w (omega (arith, colour-most E (vertex E j p))))
     where
       w : ℕ
@@ -25,7 +26,7 @@ module _ (E : List ℕ) where
       met : Neighbour E (colours E w) w (colourOf E w)
       met = record { element = j; place = p; there = l; four = hp; holds = has-place E j q hq; less = less; colour = colours-at E w (vertex E j p) less ∙ same }
 
-  pub colours-proper : (n j p q : ℕ) → j < length E / 4 → p < 4 → q < 4 → vertex E j p < vertex E j q → vertex E j q < n → getD (colours E n) (vertex E j p) 0 ≡ getD (colours E n) (vertex E j q) 0 → ⊥
+  pub colours-proper : (n j p q : ℕ) → j < E .count → p < 4 → q < 4 → vertex E j p < vertex E j q → vertex E j q < n → getD (colours E n) (vertex E j p) 0 ≡ getD (colours E n) (vertex E j q) 0 → ⊥
   colours-proper n j p q l hp hq less h e = apart j p q l hp hq less (sym (colours-at E n (vertex E j p) (omega arith)) ∙ e ∙ colours-at E n (vertex E j q) h)
 
   -- a list in which each entry is the smallest colour free among the entries before it is the list of colours
@@ -56,8 +57,8 @@ largest-some (c ∷ (d ∷ cs)) h = go (decLe (largest (d ∷ cs)) c) (largest-s
     go (no l) (v, b, e) = (suc v, omega arith, omega arith)
 
 -- N is the largest colour, and some vertex has it
-pub colours-most : (E : List ℕ) (n v : ℕ) → getD (colours E n) v 0 ≤ largest (colours E n)
+pub colours-most : (E : Cells) (n v : ℕ) → getD (colours E n) v 0 ≤ largest (colours E n)
 colours-most E n v = largest-most (colours E n) v
 
-pub colours-reached : (E : List ℕ) (n : ℕ) → 0 < n → (v : ℕ) × (v < n) × (getD (colours E n) v 0 ≡ largest (colours E n))
+pub colours-reached : (E : Cells) (n : ℕ) → 0 < n → (v : ℕ) × (v < n) × (getD (colours E n) v 0 ≡ largest (colours E n))
 colours-reached E n h = rw colours-length at (largest-some (colours E n) (rw colours-length h))

@@ -10,6 +10,8 @@ use lib.Dec.{ltb}
 use lib.ListN.{length, getD}
 use Rattle.split.specs.Split.{three, Corners, corners}
 use Rattle.forest.specs.Start.{arranged, moved}
+use Rattle.intake.specs.Cells.{Cells}
+use Rattle.intake.specs.Causes.{vertex}
 use Rattle.opening.specs.declared.order.Two.{Two}
 use Rattle.opening.specs.declared.order.Four.{Four}
 use Rattle.opening.specs.Order.{lower, upper, sorted, given, root, rootOf}
@@ -72,21 +74,15 @@ module _ (N : ℕ) (f : ℕ → ℕ) (w : Corners ℕ) where
   arranged-kept e = rw (ne-eqb (f (w .v3)) N e)
 
 -- an element as it is read
-module _ (E : List ℕ) (k : ℕ) where
-  abbrev pub readFour : Four
-  readFour = record { a = getD E (4 * k) 0; b = getD E (4 * k + 1) 0; c = getD E (4 * k + 2) 0; d = getD E (4 * k + 3) 0 }
-
-  read-given : four readFour ≡ given E k
-  read-given = rw (add-zero (4 * k))
-
-  pub read-low : {vertices : ℕ} → Plain vertices E → 4 * k + 3 < length E → Low readFour
-  read-low p h = record {
-    a = omega (arith, p .there (4 * k) (omega arith));
-    b = omega (arith, p .there (4 * k + 1) (omega arith));
-    c = omega (arith, p .there (4 * k + 2) (omega arith));
-    d = omega (arith, p .there (4 * k + 3) (omega arith));
+module _ (E : Cells) (k : ℕ) {a b c d : ℕ} (p : a ≡ vertex E k 0) (q : b ≡ vertex E k 1) (r : c ≡ vertex E k 2) (s : d ≡ vertex E k 3) where
+  pub read-low : {vertices : ℕ} → Plain vertices E → k < E .count → Low (record { a = a; b = b; c = c; d = d })
+  read-low x h = record {
+    a = omega (arith, x .there k 0 h (omega arith), x .most);
+    b = omega (arith, x .there k 1 h (omega arith), x .most);
+    c = omega (arith, x .there k 2 h (omega arith), x .most);
+    d = omega (arith, x .there k 3 h (omega arith), x .most);
   }
 
-  pub root-is : (N : ℕ) (f : ℕ → ℕ) (s r : Four) → four s ≡ sorted f (four readFour) → four r ≡ arranged three N f (four s) → root k (four r) ≡ rootOf N f E k
+  pub root-is : (N : ℕ) (f : ℕ → ℕ) (v w : Four) → four v ≡ sorted f (corners a b c d) → four w ≡ arranged three N f (four v) → root k (four w) ≡ rootOf N f E k
   unfolding rootOf
-  root-is N f s r e g = ap (root k) (g ∙ rw (e, read-given))
+  root-is N f v w e g = ap (root k) (g ∙ rw (e, p, q, r, s))

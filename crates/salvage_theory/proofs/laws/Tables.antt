@@ -9,7 +9,6 @@ use Rattle.tables.specs.Mesh.{Lent, Mesh, meshOf, laid}
 use Rattle.tables.proofs.laws.View as view
 use Rattle.tables.proofs.laws.View.{countsOf}
 use Rattle.sound.specs.Sound.{rows, Sound}
-use Rattle.sound.proofs.laws.Afresh.{roots-some}
 use Rattle.sound.proofs.laws.Laid.{mesh-vertices, mesh-rows, laid-sound}
 use Rattle.run.specs.Skeleton.{Skeleton}
 use Rattle.run.specs.Run.{Within}
@@ -39,7 +38,7 @@ module _ {m : Mesh} {i t : ℕ} (n : Intact m i t) (never : KeptDeep m t → ⊥
   pub rebuilt-sound : lp % pointWidth ≡ 0 → lv % recordWidth ≡ 0 → lr % rowWidth ≡ 0 → Sound (laid (meshFrom m i T) lp lv lr) (countsOf (meshFrom m i T))
   rebuilt-sound three two eight =
       laid-sound (meshFrom m i T) lp lv lr fits (record { points-whole = three; records-whole = two; rows-whole = eight; vertices-fit = rw size (f .vertices); rows-fit = f .rows })
-      (omega (arith, built .grows .more-rows, opened-rows n, roots-some (n .afresh) (n .rows-in))) i t (built .ready .grown) (built .ready .conforming)
+      (omega (arith, built .grows .more-rows, opened-rows n, n .afresh .some)) i t (built .ready .grown) (built .ready .conforming)
 
 -- the leading vertices and roots of sound tables are intact
 pub sound-intact : {t : Lent} {c : Counts} (s : Sound t c) → Intact (meshOf t c) (s .initials) (s .roots)

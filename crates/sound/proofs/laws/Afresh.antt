@@ -17,34 +17,20 @@ use Rattle.split.proofs.laws.Places.{le-or-lt, less, equal, more, against}
 use Rattle.tables.specs.declared.record.Record.{Record}
 use Rattle.tables.specs.Layout.{noRecord, noRow}
 use Rattle.tables.specs.Mesh.{Mesh}
-use Rattle.tables.proofs.laws.View.{length-up-to, up-to-at, length-flat}
+use Rattle.tables.proofs.laws.View.{length-up-to, up-to-at}
 use Rattle.forest.specs.Start.{moved, arranged, Rising, Started, Coloured}
-use Rattle.intake.specs.declared.answer.Verdict.the-variants.{Passed}
+use Rattle.intake.specs.Cells.{Cells}
 use Rattle.intake.specs.Causes.{vertex}
 use Rattle.opening.specs.Colours.{colours, colourOf, garish, largest}
 use Rattle.opening.specs.Order.{sorted, given, rootOf}
-use Rattle.opening.specs.Opening.{judged, initial, openedMesh}
-use Rattle.opening.specs.Scratch.{Plain}
+use Rattle.opening.specs.Opening.{initial, openedMesh}
 use Rattle.intake.proofs.laws.Search.{first-none}
-use Rattle.opening.proofs.laws.Passed.{plain-passed}
 use Rattle.opening.proofs.laws.Colours.{largest-none}
 use Rattle.opening.proofs.laws.Proper.{colours-length, colours-at, colours-proper, colours-most, colours-reached}
 use Rattle.opening.proofs.laws.Sorted.{sorted-of, sorted-rising}
-use Rattle.sound.specs.Sound.{rows, rowOf, childless, vertexCells, givenPoints, givenElements, Afresh, Grown}
+use Rattle.sound.specs.Sound.{rowOf, childless, givenPoints, rootCells, Grown}
 use Rattle.sound.specs.Forest.{forestOf, colourIn, largestIn}
-use Rattle.sound.proofs.laws.Tested.{measured, tested}
-
--- ---- an input that passed
-
--- the elements are plain, and no colour is over 63
-record Taken (vertices : ℕ) (E : List ℕ) : Type 0 where
-  plain : Plain vertices E
-  small : (v : ℕ) → v < vertices → colourOf E v ≤ 63
-
-taken : (F : List Float) (E : List ℕ) (points records rows : ℕ) → judged F E points records rows ≡ Passed → Taken (length F / 3) E
-taken F E points records rows h =
-    let t = tested F E points records rows h in
-    record { plain = plain-passed (length F) E (t .input) (t .there) (t .single); small = λ v l. ltb-false 63 (colourOf E v) (first-none (garish E) (length F / 3) (t .colours) v l) }
+use Rattle.sound.proofs.laws.Tested.{Tested, Named, tested, tested-named}
 
 -- ---- a root's vertices are the given ones in another order
 
@@ -72,7 +58,7 @@ module _ (P : ℕ → Type 0) (f : ℕ → ℕ) (w : Corners ℕ) (h : (p : ℕ)
   sorted-at : (p : ℕ) → p ≤ 3 → P (at (sorted f w) p)
   sorted-at p l = let r = sorted-of f w (at (sorted f w) p) (record { place = p; inside = l; is = refl }) in rw (← r .is) (h (r .place) (r .inside))
 
-given-at : (E : List ℕ) (k p : ℕ) → p ≤ 3 → at (given E k) p ≡ vertex E k p
+given-at : (E : Cells) (k p : ℕ) → p ≤ 3 → at (given E k) p ≡ vertex E k p
 given-at E k zero h = refl
 given-at E k (suc zero) h = refl
 given-at E k (suc (suc zero)) h = refl
@@ -81,27 +67,21 @@ given-at E k (suc (suc (suc (suc p)))) h = absurd (omega arith)
 
 -- ---- the opened mesh by numbers
 
-module _ (F : List Float) (E : List ℕ) (n : ℕ) (e : length F / 3 ≡ n) where
+module _ (F : List Float) (E : Cells) (n : ℕ) (e : length F / 3 ≡ n) where
   records-at : (v : ℕ) → v < n → getD (openedMesh F E .records) v noRecord ≡ initial (getD (colours E n) v 0)
   unfolding openedMesh
   records-at v h = rw e (up-to-at (λ v. initial (getD (colours E n) v 0)) n v noRecord h)
 
-  rows-at : (k : ℕ) → k < length E / 4 → getD (openedMesh F E .rows) k noRow ≡ rootOf (largest (colours E n)) (λ v. getD (colours E n) v 0) E k
+  rows-at : (k : ℕ) → k < E .count → getD (openedMesh F E .rows) k noRow ≡ rootOf (largest (colours E n)) (λ v. getD (colours E n) v 0) E k
   unfolding openedMesh
-  rows-at k h = rw e (up-to-at (rootOf (largest (colours E n)) (λ v. getD (colours E n) v 0) E) (length E / 4) k noRow h)
+  rows-at k h = rw e (up-to-at (rootOf (largest (colours E n)) (λ v. getD (colours E n) v 0) E) (E .count) k noRow h)
 
 -- ---- the first i vertices and the first t rows
 
--- opening refuses a mesh without elements, so there is a root
-pub roots-some : {m : Mesh} {i t : ℕ} → Afresh m i t → t ≤ rows m → 1 ≤ t
-roots-some {m} {i} {t} a h =
-    let some = measured _ _ (tested (givenPoints m i) (givenElements m t) _ _ _ (a .opens) .input) .some in
-    omega (arith, some, length-flat vertexCells 4 (λ r. refl) (take t (m .rows)), length-take-le t (m .rows) h)
-
 module _ {m : Mesh} {i t : ℕ} (g : Grown m i t) where
   -- the roots' vertices as opening takes them, and Algorithm 2's colours
-  abbrev E : List ℕ
-  E = givenElements m t
+  abbrev E : Cells
+  E = rootCells m t
 
   abbrev shade : ℕ → ℕ
   shade v = getD (colours E i) v 0
@@ -110,12 +90,14 @@ module _ {m : Mesh} {i t : ℕ} (g : Grown m i t) where
   unfolding openedMesh
   opened-vertices = sym (length-up-to _ (length (givenPoints m i) / 3)) ∙ ap length (g .afresh .colours) ∙ length-take-le i (m .records) (g .parted .vertices-in)
 
-  opened-rows : length E / 4 ≡ t
-  unfolding openedMesh
-  opened-rows = sym (length-up-to _ (length E / 4)) ∙ ap length (g .afresh .rows) ∙ length-map (take t (m .rows)) childless ∙ length-take-le t (m .rows) (g .parted .rows-in)
+  tests : Tested (givenPoints m i) E
+  tests = tested (givenPoints m i) E (g .afresh .opens)
 
-  passed : Taken i E
-  passed = rw opened-vertices at (taken (givenPoints m i) E _ _ _ (g .afresh .opens))
+  named : Named i E
+  named = rw opened-vertices at (tested-named tests)
+
+  small : (v : ℕ) → v < i → colourOf E v ≤ 63
+  small v l = ltb-false 63 (colourOf E v) (first-none (garish E) (length (givenPoints m i) / 3) (tests .colours) v (omega (arith, opened-vertices)))
 
   -- the colour of an initial vertex is Algorithm 2's
   pub colour-is : (v : ℕ) → v < i → colourIn m i v ≡ shade v
@@ -133,11 +115,11 @@ module _ {m : Mesh} {i t : ℕ} (g : Grown m i t) where
   root-is : (k : ℕ) → k < t → childless (rowOf m k) ≡ rootOf (largestIn m i) shade E k
   root-is k h =
       ap childless (sym (getD-take t (m .rows) k noRow h)) ∙ sym (List·getD-map childless (take t (m .rows)) k noRow) ∙ sym (ap (λ (l : List Row). getD l k noRow) (g .afresh .rows))
-      ∙ rw largest-is (rows-at (givenPoints m i) E i opened-vertices k (omega (arith, opened-rows)))
+      ∙ rw largest-is (rows-at (givenPoints m i) E i opened-vertices k h)
 
   module _ (k : ℕ) (root : k < t) where
     vertex-below : (p : ℕ) → p ≤ 3 → vertex E k p < i
-    vertex-below p h = passed .plain .there (4 * k + p) (omega (arith, passed .plain .whole, opened-rows))
+    vertex-below p h = named .there k p root (omega arith)
 
     given-below : (p : ℕ) → p ≤ 3 → at (given E k) p < i
     given-below p h = rw (given-at E k p h) (vertex-below p h)
@@ -162,9 +144,9 @@ module _ {m : Mesh} {i t : ℕ} (g : Grown m i t) where
     -- Algorithm 2's colours are different within it
     differ : (p q : ℕ) → p ≤ 3 → q ≤ 3 → shade (vertex E k p) ≡ shade (vertex E k q) → p ≡ q
     differ p q h l e = elim (against (vertex E k p) (vertex E k q)) [
-      | less a ↦ absurd (colours-proper E i k p q (omega (arith, opened-rows)) (omega arith) (omega arith) a (vertex-below q l) e)
-      | equal a ↦ passed .plain .apart k p q (omega (arith, opened-rows)) (omega arith) (omega arith) a
-      | more a ↦ absurd (colours-proper E i k q p (omega (arith, opened-rows)) (omega arith) (omega arith) a (vertex-below p h) (sym e))
+      | less a ↦ absurd (colours-proper E i k p q root (omega arith) (omega arith) a (vertex-below q l) e)
+      | equal a ↦ named .apart k p q root (omega arith) (omega arith) a
+      | more a ↦ absurd (colours-proper E i k q p root (omega arith) (omega arith) a (vertex-below p h) (sym e))
     ]
 
     started : Started three (largestIn m i) (colourIn m i) (cornersOf (rowOf m k))
@@ -178,7 +160,7 @@ module _ {m : Mesh} {i t : ℕ} (g : Grown m i t) where
   largest-small : largestIn m i ≤ 63
   largest-small = rw largest-is (elim (le-or-lt i 0) [
     | inl h ↦ let e : i ≡ 0 = omega arith in rw (e, largest-none) (omega arith)
-    | inr h ↦ let (v, l, e) = colours-reached E i h in omega (arith, colours-at E i v l, passed .small v l)
+    | inr h ↦ let (v, l, e) = colours-reached E i h in omega (arith, colours-at E i v l, small v l)
   ])
 
   -- the forest of a mesh with its colours (000, Definitions 1 and 2)

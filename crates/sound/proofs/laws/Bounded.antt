@@ -24,7 +24,7 @@ use Rattle.intake.specs.Search.{first}
 use Rattle.intake.specs.Causes.{usable, unusable}
 use Rattle.intake.proofs.laws.Search.{first-none}
 use Rattle.opening.proofs.laws.Passed.{usable-bounded}
-use Rattle.sound.specs.Sound.{vertices, pointOf, recordOf, givenPoints, givenElements, Grown, Sound}
+use Rattle.sound.specs.Sound.{vertices, pointOf, recordOf, givenPoints, rootCells, Grown, Sound}
 use Rattle.sound.specs.Follows.{BoundedPoint}
 use Rattle.sound.proofs.laws.Searches.{and-both}
 use Rattle.sound.proofs.laws.Flat.{flat-at}
@@ -77,7 +77,7 @@ module _ {m : Mesh} {i t : ℕ} (g : Grown m i t) where
   initial-bounded : (v : ℕ) → v < i → BoundedPoint (pointOf m v)
   initial-bounded v h =
       rw (← getD-take i (m .points) v noPoint h)
-      (listed-bounded (take i (m .points)) (tested (givenPoints m i) (givenElements m t) (3 * i) (2 * i) (8 * t) (g .afresh .opens) .usable) v)
+      (listed-bounded (take i (m .points)) (tested (givenPoints m i) (rootCells m t) (g .afresh .opens) .usable) v)
 
   bounded-below : (n v : ℕ) → v < n → v < vertices m → BoundedPoint (pointOf m v)
   bounded-below zero v h l = absurd (omega arith)

@@ -8,6 +8,7 @@ use lib.ListN.{length}
 use Rattle.split.specs.Split.{three, Corners, corners, at, Holds}
 use Rattle.split.proofs.laws.Places.{Against, less, equal, more, against}
 use Rattle.forest.specs.Start.{arranged}
+use Rattle.intake.specs.Cells.{Cells}
 use Rattle.intake.specs.Causes.{vertex, has}
 use Rattle.opening.specs.Order.{sorted, given, root, rootOf}
 use Rattle.opening.proofs.laws.Colours.{has-place, has-some}
@@ -73,7 +74,7 @@ climbs-once {f} {u} {w} c d h = go (in-w 0 (omega arith)) (in-w 1 (omega arith))
 
 -- ---- the corners of an element
 
-module _ (E : List ℕ) (k : ℕ) where
+module _ (E : Cells) (k : ℕ) where
   pub corner-at : (q : ℕ) → q < 4 → at (given E k) q ≡ vertex E k q
   corner-at = each-of-four (λ q. at (given E k) q ≡ vertex E k q) refl refl refl refl
 
@@ -84,20 +85,20 @@ module _ (E : List ℕ) (k : ℕ) where
   has-holds v h = let (q, l, e) = has-some E k v h in record { place = q; inside = omega arith; is = corner-at q l ∙ e }
 
 -- the colours of each element's vertices differ
-pub record Proper (f : ℕ → ℕ) (E : List ℕ) : Type 0 where
-  pub differ : (k p q : ℕ) → k < length E / 4 → p < 4 → q < 4 → f (vertex E k p) ≡ f (vertex E k q) → p ≡ q
+pub record Proper (f : ℕ → ℕ) (E : Cells) : Type 0 where
+  pub differ : (k p q : ℕ) → k < E .count → p < 4 → q < 4 → f (vertex E k p) ≡ f (vertex E k q) → p ≡ q
 
-module _ {f : ℕ → ℕ} {E : List ℕ} (d : Proper f E) where
+module _ {f : ℕ → ℕ} {E : Cells} (d : Proper f E) where
   pub proper-single : Single E
   proper-single = record { apart = λ k p q h l m e. d .differ k p q h l m (ap f e) }
 
-  pub proper-corners : (k : ℕ) → k < length E / 4 → (p q : ℕ) → p ≤ 3 → q ≤ 3 → f (at (given E k) p) ≡ f (at (given E k) q) → p ≡ q
+  pub proper-corners : (k : ℕ) → k < E .count → (p q : ℕ) → p ≤ 3 → q ≤ 3 → f (at (given E k) p) ≡ f (at (given E k) q) → p ≡ q
   proper-corners k h p q l m e = d .differ k p q h (omega arith) (omega arith) (ap f (sym (corner-at E k p (omega arith))) ∙ e ∙ ap f (corner-at E k q (omega arith)))
 
-  pub sorted-climb : (k : ℕ) → k < length E / 4 → Climbs f (sorted f (given E k))
+  pub sorted-climb : (k : ℕ) → k < E .count → Climbs f (sorted f (given E k))
   sorted-climb k h = let (a, b, c) = sorted-climbs f (given E k) (proper-corners k h) in record { first = a; second = b; third = c }
 
-pub root-reordered : {E E' : List ℕ} {f : ℕ → ℕ} → Reordered E E' → Proper f E → Proper f E' → (N k : ℕ) → k < length E / 4 → rootOf N f E k ≡ rootOf N f E' k
+pub root-reordered : {E E' : Cells} {f : ℕ → ℕ} → Reordered E E' → Proper f E → Proper f E' → (N k : ℕ) → k < E .count → rootOf N f E k ≡ rootOf N f E' k
 unfolding rootOf
 root-reordered {E} {E'} {f} r d d' N k h = ap (λ (w : Corners ℕ). root k (arranged three N f w)) (climbs-once (sorted-climb d k h) (sorted-climb d' k (rw (← r .long) h)) kept)
   where

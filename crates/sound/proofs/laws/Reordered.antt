@@ -7,6 +7,7 @@ use native.Mathlib.Omega.{arith}
 use borrow.Author.Tests.{leb-true, le-leb, ne-eqb}
 use lib.Dec.{eqb, leb}
 use lib.ListN.{length}
+use Rattle.intake.specs.Cells.{Cells}
 use Rattle.intake.specs.Search.{any, count}
 use Rattle.intake.specs.Causes.{vertex, missing, twice, double, has, same, third}
 use Rattle.opening.specs.Colours.{taken, colours, colourOf}
@@ -15,50 +16,50 @@ use Rattle.opening.proofs.laws.Colours.{Neighbour, taken-has, taken-some, has-p
 use Rattle.sound.proofs.laws.Searches.{and-both, agree, count-most, each-of-four, or-some, or-has, but, but-each, but-all}
 
 -- each element of E' holds the vertices of that of E
-pub record Reordered (E E' : List ℕ) : Type 0 where
-  pub long : length E ≡ length E'
-  pub same : (k v : ℕ) → k < length E / 4 → has E k v ≡ has E' k v
+pub record Reordered (E E' : Cells) : Type 0 where
+  pub long : E .count ≡ E' .count
+  pub same : (k v : ℕ) → k < E .count → has E k v ≡ has E' k v
 
-reordered-back : {E E' : List ℕ} → Reordered E E' → Reordered E' E
+reordered-back : {E E' : Cells} → Reordered E E' → Reordered E' E
 reordered-back r = record { long = sym (r .long); same = λ k v h. sym (r .same k v (rw (r .long) h)) }
 
 -- no element names a vertex twice
-pub record Single (E : List ℕ) : Type 0 where
-  pub apart : (k p q : ℕ) → k < length E / 4 → p < 4 → q < 4 → vertex E k p ≡ vertex E k q → p ≡ q
+pub record Single (E : Cells) : Type 0 where
+  pub apart : (k p q : ℕ) → k < E .count → p < 4 → q < 4 → vertex E k p ≡ vertex E k q → p ≡ q
 
-pub single-passes : {E : List ℕ} → Single E → (k : ℕ) → k < length E / 4 → double E k ≡ false
+pub single-passes : {E : Cells} → Single E → (k : ℕ) → k < E .count → double E k ≡ false
 unfolding twice
 single-passes {E} s k h = rw (other 0 1 (omega arith), other 0 2 (omega arith), other 0 3 (omega arith), other 1 2 (omega arith), other 1 3 (omega arith), other 2 3 (omega arith))
   where
     other : (p q : ℕ) → (p < 4) × (q < 4) × (p ≡ q → ⊥) → eqb (vertex E k p) (vertex E k q) ≡ false
     other p q (l, m, d) = ne-eqb _ _ (λ e. d (s .apart k p q h l m e))
 
-module _ {E E' : List ℕ} (r : Reordered E E') where
+module _ {E E' : Cells} (r : Reordered E E') where
   -- where E' has the vertex of a place of E
-  place-in : (k q : ℕ) → k < length E / 4 → q < 4 → (p : ℕ) × (p < 4) × (vertex E' k p ≡ vertex E k q)
+  place-in : (k q : ℕ) → k < E .count → q < 4 → (p : ℕ) × (p < 4) × (vertex E' k p ≡ vertex E k q)
   place-in k q h l = has-some E' k (vertex E k q) (sym (r .same k (vertex E k q) h) ∙ has-place E k q l)
 
   -- and the other way round
-  place-from : (k q : ℕ) → k < length E / 4 → q < 4 → (p : ℕ) × (p < 4) × (vertex E k p ≡ vertex E' k q)
+  place-from : (k q : ℕ) → k < E .count → q < 4 → (p : ℕ) × (p < 4) × (vertex E k p ≡ vertex E' k q)
   place-from k q h l = has-some E k (vertex E' k q) (r .same k (vertex E' k q) h ∙ has-place E' k q l)
 
-  held : (j k p q : ℕ) → j < length E / 4 → vertex E' k p ≡ vertex E k q → has E' j (vertex E' k p) ≡ true → has E j (vertex E k q) ≡ true
+  held : (j k p q : ℕ) → j < E .count → vertex E' k p ≡ vertex E k q → has E' j (vertex E' k p) ≡ true → has E j (vertex E k q) ≡ true
   held j k p q h e t = r .same j (vertex E k q) h ∙ rw e at t
 
   -- ---- numbers 4, 6 and 7
 
-  pub missing-reordered : (n k : ℕ) → k < length E / 4 → missing n E' k ≡ true → missing n E k ≡ true
+  pub missing-reordered : (n k : ℕ) → k < E .count → missing n E' k ≡ true → missing n E k ≡ true
   unfolding missing
   missing-reordered n k h t =
       let (q, l, e) = or-some (λ q. leb n (vertex E' k q)) t in
       let (p, m, f) = place-from k q h l in
       or-has (λ q. leb n (vertex E k q)) p m (rw f e)
 
-  pub same-reordered : (k : ℕ) → k < length E / 4 → same E' k ≡ true → same E k ≡ true
+  pub same-reordered : (k : ℕ) → k < E .count → same E' k ≡ true → same E k ≡ true
   unfolding same
   same-reordered k h t = found (any-some (whole E') k t)
     where
-      whole : List ℕ → ℕ → Bool
+      whole : Cells → ℕ → Bool
       whole E j = has E j (vertex E k 0) && (has E j (vertex E k 1) && (has E j (vertex E k 2) && has E j (vertex E k 3)))
 
       found : (j : ℕ) × (j < k) × (whole E' j ≡ true) → any (whole E) k ≡ true
@@ -77,25 +78,25 @@ module _ {E E' : List ℕ} (r : Reordered E E') where
               held j k p q (omega arith) f (given p i)
 
 -- the face that lacks place m, in element j
-abbrev face : List ℕ → ℕ → ℕ → ℕ → Bool
+abbrev face : Cells → ℕ → ℕ → ℕ → Bool
 face E k m j = but m (λ q. has E j (vertex E k q))
 
 -- the place that the tests' faces lack falls from 3 to 0
-third-some : (E : List ℕ) (k : ℕ) → third E k ≡ true → (m : ℕ) × (m < 4) × (2 ≤ count (face E k m) k)
+third-some : (E : Cells) (k : ℕ) → third E k ≡ true → (m : ℕ) × (m < 4) × (2 ≤ count (face E k m) k)
 unfolding third
 third-some E k t =
     let (m, l, e) = or-some (λ m. leb 2 (count (face E k (3 - m)) k)) t in
     (3 - m, omega arith, leb-true _ _ e)
 
-third-has : (E : List ℕ) (k m : ℕ) → m < 4 → 2 ≤ count (face E k m) k → third E k ≡ true
+third-has : (E : Cells) (k m : ℕ) → m < 4 → 2 ≤ count (face E k m) k → third E k ≡ true
 unfolding third
 third-has E k m l h =
     let e : 3 - (3 - m) ≡ m = omega arith in
     or-has (λ m. leb 2 (count (face E k (3 - m)) k)) (3 - m) (omega arith) (rw e (le-leb _ _ h))
 
-module _ {E E' : List ℕ} (r : Reordered E E') (s : Single E) where
+module _ {E E' : Cells} (r : Reordered E E') (s : Single E) where
   -- the face of E that lacks the same vertex has no other vertices, so it is in no fewer elements
-  pub third-reordered : (k : ℕ) → k < length E / 4 → third E' k ≡ true → third E k ≡ true
+  pub third-reordered : (k : ℕ) → k < E .count → third E' k ≡ true → third E k ≡ true
   third-reordered k h t = found (third-some E' k t)
     where
       found : (m : ℕ) × (m < 4) × (2 ≤ count (face E' k m) k) → third E k ≡ true
@@ -114,7 +115,7 @@ module _ {E E' : List ℕ} (r : Reordered E E') (s : Single E) where
 
 -- ---- the colours
 
-neighbour-reordered : {E E' painted : List ℕ} {v c : ℕ} → Reordered E E' → Neighbour E painted v c → Neighbour E' painted v c
+neighbour-reordered : {E E' : Cells} {painted : List ℕ} {v c : ℕ} → Reordered E E' → Neighbour E painted v c → Neighbour E' painted v c
 neighbour-reordered {E} {E'} {painted} {v} {c} r n = at (place-in r (n .element) (n .place) (n .there) (n .four))
   where
     at : (p : ℕ) × (p < 4) × (vertex E' (n .element) p ≡ vertex E (n .element) (n .place)) → Neighbour E' painted v c
@@ -128,7 +129,7 @@ neighbour-reordered {E} {E'} {painted} {v} {c} r n = at (place-in r (n .element)
       colour = rw e (n .colour);
     }
 
-module _ {E E' : List ℕ} (r : Reordered E E') where
+module _ {E E' : Cells} (r : Reordered E E') where
   taken-reordered : (painted : List ℕ) (v c : ℕ) → taken E painted v c ≡ taken E' painted v c
   taken-reordered painted v c =
       agree _ _ (λ t. taken-has E' painted v c (neighbour-reordered r (taken-some E painted v c t)))

@@ -13,9 +13,8 @@ use Rattle.chain.proofs.laws.Index.{indexed-none, indexed-push-one}
 use Rattle.chain.proofs.laws.Pushed.{pushed-length}
 use Rattle.tables.specs.declared.record.Record.{Record}
 use Rattle.tables.specs.Layout.{recordAt}
-use Rattle.opening.proofs.laws.Filling.{Cleared}
 use Rattle.sound.specs.Check.{Decides}
-use Rattle.soundness.specs.Check.{Zeroed, Run, heads, keyOf, pairAt, Has, Untaken, Single, Fresh, Entered}
+use Rattle.soundness.specs.Check.{Run, heads, keyOf, pairAt, Has, Untaken, Single, Fresh, Entered}
 use Rattle.sound.proofs.laws.Deciding.{decides-true, decides-false, decides-same, refused, granted, Swept, swept-none, swept-on, swept-all, swept-failed}
 use Rattle.soundness.proofs.laws.Chains.{Walked, walked-on}
 
@@ -26,13 +25,6 @@ key-low a b = omega arith
 pub key-is : {a b x y k : ℕ} → x ≡ a → y ≡ b → k ≡ (x * 7919 + y) % 79999 → k ≡ keyOf a b
 unfolding keyOf
 key-is e f g = rw (g, e, f)
-
--- a table whose front is cleared
-pub zeroed-front : {n i size : ℕ} {l : List ℕ} → Cleared 0 size i l → n ≤ i → Zeroed n size l
-zeroed-front {n} {i} {size} {l} c h = record {
-  size = c .length-is;
-  zero = λ v k. sym (getD-take i l v 0 (omega arith)) ∙ ap (λ (t : List ℕ). getD t v 0) (c .front) ∙ getD-replicate i v 0 0 (omega arith);
-}
 
 -- ---- one vertex
 

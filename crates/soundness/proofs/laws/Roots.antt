@@ -1,94 +1,37 @@
--- Clause 3: gathering the roots' vertices, and what comparing with the tables decides.
+-- Clause 3: what comparing the first rows with the tables decides.
 use mathlib.Core.Path.{_≡_, refl, sym, ap, _∙_}
-use mathlib.Core.Bool.{true, true≢false}
-use mathlib.Core.List.{List, [], _∷_, _++_, map, append-assoc}
-use Prim.Native.Nat.{ℕ, _+_, _*_, _/_, _≤_, _<_}
-use native.Mathlib.Nat.{le-antisymm}
-use native.Mathlib.Numerals.{add-one}
+use mathlib.Core.Bool.{Bool, true, _&&_, true≢false}
+use mathlib.Core.List.{List, map}
+use Prim.Native.Nat.{ℕ, _+_, _-_, _*_, _/_, _≤_, _<_}
+use native.Mathlib.Nat.{add-zero, sub-zero}
 use native.Mathlib.Omega.{arith}
-use lib.ListN.{length, take, set, length-set}
-use lib.Seq.{length-take-le, take-suc-set}
+use borrow.Author.Tests.{lt-ltb}
+use lib.ListN.{length, getD, take}
+use lib.Seq.{length-take-le}
 use lib.Ieee.{Float}
 use Rattle.split.specs.declared.row.Row.{Row}
+use Rattle.split.specs.Split.{at}
+use Rattle.split.specs.Row.{cornersOf}
 use Rattle.tables.specs.declared.layout.Counts.{Counts}
-use Rattle.tables.specs.Layout.{pointAt, recordAt, rowAt}
-use Rattle.tables.specs.Mesh.{Mesh, meshOf, upTo, flat}
-use Rattle.tables.proofs.laws.View.{up-to-next, length-up-to, flat-append, flat-one, flat-up-to, length-flat}
+use Rattle.tables.specs.Layout.{noRow, pointAt, recordAt, rowAt, rowFrom, roomOf}
+use Rattle.tables.specs.Mesh.{Mesh, meshOf, upTo}
+use Rattle.tables.proofs.laws.View.{up-to-at, flat-up-to}
 use Rattle.tables.proofs.laws.Rows.{points}
 use Rattle.intake.specs.declared.answer.Verdict.the-variants.{Passed}
+use Rattle.intake.specs.Cells.{Cells, gridOf, cells}
+use Rattle.intake.specs.Verdict.{plain}
 use Rattle.opening.specs.Colours.{colours, largest}
 use Rattle.opening.specs.Order.{rootOf}
-use Rattle.opening.specs.Opening.{judged, initial, openedMesh}
-use Rattle.opening.specs.Agree.{paint, agreed}
-use Rattle.opening.proofs.laws.Agree.{ButChild, root-same, same-root, agreed-means, means-agreed}
-use Rattle.sound.specs.Sound.{childless, vertexCells, givenPoints, givenElements, Afresh, Fitting}
+use Rattle.opening.specs.Opening.{late, initial, openedMesh}
+use Rattle.opening.specs.Agree.{paint, agreed, workable}
+use Rattle.opening.proofs.laws.Agree.{ButChild, root-same, same-root, both, Workable, workable-means, means-workable, agreed-means, means-agreed}
+use Rattle.sound.specs.Sound.{childless, givenPoints, rootCells, Afresh, Fitting}
 use Rattle.sound.specs.Check.{Decides, lent}
 use Rattle.sound.proofs.laws.Flat.{up-to-same, up-to-front, up-to-map, up-to-each}
-use Rattle.sound.proofs.laws.Deciding.{decides-same}
+use Rattle.sound.proofs.laws.Searches.{each-of-four}
+use Rattle.sound.proofs.laws.Tested.{tested, tested-passes}
+use Rattle.sound.proofs.laws.Views.{Views, views-back, views-tested, views-records, views-rows}
 use Rattle.shape.proofs.laws.Fitted.{fitting-points, fitting-inside}
-
--- ---- gathering
-
--- the invariant of the loop: the first k rows' vertices are in front
-pub record Gathered (W : List ℕ) (t : ℕ) (before now : List ℕ) (k : ℕ) : Type 0 where
-  pub front : take (4 * k) now ≡ flat vertexCells (upTo (rowAt W) k)
-  pub long : length now ≡ length before
-  pub within : k ≤ t
-
--- a store right after a front
-stored : (l : List ℕ) (n i j x : ℕ) (f : List ℕ) → take i l ≡ f → j ≡ i + 1 → length l ≡ n → i < n → take j (set l i x) ≡ f ++ (x ∷ [])
-stored l n i j x f e s b h = rw (s, add-one i, ← e) (take-suc-set l i x (omega arith))
-
--- four stores of one number each are one row's vertices
-four : (f : List ℕ) (r : Row) → (((f ++ (r .v0 ∷ [])) ++ (r .v1 ∷ [])) ++ (r .v2 ∷ [])) ++ (r .v3 ∷ []) ≡ f ++ vertexCells r
-four f r = rw (append-assoc (f ++ (r .v0 ∷ [])) (r .v1 ∷ []) (r .v2 ∷ []), append-assoc (f ++ (r .v0 ∷ [])) (r .v1 ∷ r .v2 ∷ []) (r .v3 ∷ []), append-assoc f (r .v0 ∷ []) (r .v1 ∷ r .v2 ∷ r .v3 ∷ []))
-
-module _ {W : List ℕ} {t : ℕ} {before : List ℕ} where
-  pub gathered-none : Gathered W t before before 0
-  unfolding upTo flat
-  gathered-none = record { front = refl; long = refl; within = omega arith }
-
-  module _ {now : List ℕ} {k : ℕ} (g : Gathered W t before now k) where
-    -- what stands in front before the stores
-    abbrev f : List ℕ
-    f = flat vertexCells (upTo (rowAt W) k)
-
-    pub gathered-on : {r : Row} {e0 e1 e2 e3 : List ℕ} → 4 * t ≤ length before → k < t → r ≡ rowAt W k
-        → e0 ≡ set now (4 * k) (r .v0) → e1 ≡ set e0 (4 * k + 1) (r .v1) → e2 ≡ set e1 (4 * k + 2) (r .v2) → e3 ≡ set e2 (4 * k + 3) (r .v3)
-        → Gathered W t before e3 (k + 1)
-    gathered-on {r} {e0} {e1} {e2} {e3} room h is p0 p1 p2 p3 = record { front = front; long = l3; within = omega arith }
-      where
-        l0 : length e0 ≡ length before
-        l0 = ap length p0 ∙ length-set now (4 * k) (r .v0) ∙ g .long
-
-        l1 : length e1 ≡ length before
-        l1 = ap length p1 ∙ length-set e0 (4 * k + 1) (r .v1) ∙ l0
-
-        l2 : length e2 ≡ length before
-        l2 = ap length p2 ∙ length-set e1 (4 * k + 2) (r .v2) ∙ l1
-
-        l3 : length e3 ≡ length before
-        l3 = ap length p3 ∙ length-set e2 (4 * k + 3) (r .v3) ∙ l2
-
-        f0 : take (4 * k + 1) e0 ≡ f ++ (r .v0 ∷ [])
-        f0 = rw p0 (stored now (length before) (4 * k) (4 * k + 1) (r .v0) f (g .front) refl (g .long) (omega arith))
-
-        f1 : take (4 * k + 2) e1 ≡ (f ++ (r .v0 ∷ [])) ++ (r .v1 ∷ [])
-        f1 = rw p1 (stored e0 (length before) (4 * k + 1) (4 * k + 2) (r .v1) _ f0 (omega arith) l0 (omega arith))
-
-        f2 : take (4 * k + 3) e2 ≡ ((f ++ (r .v0 ∷ [])) ++ (r .v1 ∷ [])) ++ (r .v2 ∷ [])
-        f2 = rw p2 (stored e1 (length before) (4 * k + 2) (4 * k + 3) (r .v2) _ f1 (omega arith) l1 (omega arith))
-
-        f3 : take (4 * (k + 1)) e3 ≡ (((f ++ (r .v0 ∷ [])) ++ (r .v1 ∷ [])) ++ (r .v2 ∷ [])) ++ (r .v3 ∷ [])
-        f3 = rw p3 (stored e2 (length before) (4 * k + 3) (4 * (k + 1)) (r .v3) _ f2 (omega arith) l2 (omega arith))
-
-        front : take (4 * (k + 1)) e3 ≡ flat vertexCells (upTo (rowAt W) (k + 1))
-        front =
-            f3 ∙ four f r
-            ∙ rw (up-to-next (rowAt W) k, flat-append vertexCells (upTo (rowAt W) k) (rowAt W k ∷ []), flat-one vertexCells (rowAt W k), ← is)
-
-    pub gathered-all : t ≤ k → take (4 * t) now ≡ flat vertexCells (upTo (rowAt W) t)
-    gathered-all h = rw (le-antisymm h (g .within)) (g .front)
 
 -- ---- the comparison
 
@@ -108,16 +51,16 @@ but-child a b leaf s = λ i. record {
 child-but : (a b : Row) → b ≡ childless a → ButChild a b
 child-but a b e = rw e (record { same-v0 = refl; same-v1 = refl; same-v2 = refl; same-v3 = refl; same-tag = refl; same-parent = refl; same-depth = refl })
 
-root-leaf : (N : ℕ) (f : ℕ → ℕ) (E : List ℕ) (k : ℕ) → rootOf N f E k .child ≡ 0
+root-leaf : (N : ℕ) (f : ℕ → ℕ) (E : Cells) (k : ℕ) → rootOf N f E k .child ≡ 0
 unfolding rootOf
 root-leaf N f E k = refl
 
-module _ (F : List Float) (E R W : List ℕ) where
-  -- opening F and E is accepted, and gives the colours and, but for the first child, the rows that stand in front of the tables
+module _ (F : List Float) (E : Cells) (R W : List ℕ) where
+  -- opening F and E passes tests 3 to 8, and gives the colours and, but for the first child, the rows that stand in front of the tables
   record Alike : Type 0 where
-    opens : judged F E (3 * (length F / 3)) (2 * (length F / 3)) (8 * (length E / 4)) ≡ Passed
+    opens : plain F E (late E (length F / 3)) ≡ Passed
     colours : openedMesh F E .records ≡ upTo (recordAt R) (length F / 3)
-    rows : openedMesh F E .rows ≡ map childless (upTo (rowAt W) (length E / 4))
+    rows : openedMesh F E .rows ≡ map childless (upTo (rowAt W) (E .count))
 
   -- the row that opening makes of element k
   abbrev made : ℕ → Row
@@ -131,8 +74,8 @@ module _ (F : List Float) (E R W : List ℕ) where
         opens = a;
         colours = up-to-same (recordAt R) (length F / 3) (recordAt R 0) (λ v. initial (paint F E v)) (λ v h. sym (b v h));
         rows =
-            up-to-same (λ k. childless (rowAt W k)) (length E / 4) (rowAt W 0) made (λ k h. but-child (rowAt W k) (made k) (root-leaf _ _ E k) (root-same _ _ (d k h)))
-            ∙ sym (up-to-map (rowAt W) childless (length E / 4));
+            up-to-same (λ k. childless (rowAt W k)) (E .count) (rowAt W 0) made (λ k h. but-child (rowAt W k) (made k) (root-leaf _ _ E k) (root-same _ _ (d k h)))
+            ∙ sym (up-to-map (rowAt W) childless (E .count));
       }
 
   alike-agreed : Alike → agreed F E R W ≡ true
@@ -140,12 +83,18 @@ module _ (F : List Float) (E R W : List ℕ) where
   alike-agreed s =
       means-agreed F E R W (s .opens)
       (λ v h. sym (up-to-each (recordAt R) (λ v. initial (paint F E v)) (length F / 3) (s .colours) v h))
-      (λ k h. same-root _ _ (child-but (rowAt W k) (made k) (up-to-each (λ k. childless (rowAt W k)) made (length E / 4) (s .rows ∙ up-to-map (rowAt W) childless (length E / 4)) k h)))
+      (λ k h. same-root _ _ (child-but (rowAt W k) (made k) (up-to-each (λ k. childless (rowAt W k)) made (E .count) (s .rows ∙ up-to-map (rowAt W) childless (E .count)) k h)))
 
-  decides-alike : Decides Alike (agreed F E R W)
-  decides-alike = record { yes = agreed-alike; no = λ e s. true≢false (sym (alike-agreed s) ∙ e) }
+views-alike : {E E' : Cells} → Views E E' → (F : List Float) (R W : List ℕ) → Alike F E R W → Alike F E' R W
+views-alike {E} {E'} x F R W s =
+    let t = tested F E (s .opens) in
+    record {
+      opens = tested-passes F E' (views-tested x t);
+      colours = views-records x t ∙ s .colours;
+      rows = views-rows x t ∙ s .rows ∙ ap (λ (n : ℕ). map childless (upTo (rowAt W) n)) (x .long);
+    }
 
--- F and E are the first i points and the vertices of the first t rows
+-- F and E are the first i points and the first t rows
 module _ {P : List Float} {R W : List ℕ} {c : Counts} (fit : Fitting (lent P R W) c) {i t : ℕ} (few : (i ≤ c .vertices) × (t ≤ c .rows)) where
   abbrev m : Mesh
   m = meshOf (lent P R W) c
@@ -157,8 +106,8 @@ module _ {P : List Float} {R W : List ℕ} {c : Counts} (fit : Fitting (lent P R
   pub points-few : 3 * i ≤ 60000
   points-few = omega (arith, fitting-inside fit .few-vertices, few .0)
 
-  pub elements-few : 4 * t ≤ 400000
-  elements-few = omega (arith, fitting-inside fit .few-rows, few .1)
+  rows-few : t ≤ 100000
+  rows-few = omega (arith, fitting-inside fit .few-rows, few .1)
 
   points-given : givenPoints m i ≡ take (3 * i) P
   unfolding meshOf
@@ -168,38 +117,67 @@ module _ {P : List Float} {R W : List ℕ} {c : Counts} (fit : Fitting (lent P R
   unfolding meshOf
   rows-given = up-to-front (rowAt W) t (c .rows) (few .1)
 
-  elements-given : givenElements m t ≡ flat vertexCells (upTo (rowAt W) t)
-  elements-given = ap (flat vertexCells) rows-given
-
   colours-given : take i (m .records) ≡ upTo (recordAt R) i
   unfolding meshOf
   colours-given = up-to-front (recordAt R) i (c .vertices) (few .0)
 
-  pub decides-afresh : {F : List Float} {E : List ℕ} → F ≡ take (3 * i) P → E ≡ flat vertexCells (upTo (rowAt W) t) → Decides (Afresh m i t) (agreed F E R W)
-  decides-afresh {F} {E} p q = decides-same to from (decides-alike F E R W)
-    where
-      fs : givenPoints m i ≡ F
-      fs = points-given ∙ sym p
+  -- the table read by rows has what the rows have
+  row-is : (k : ℕ) → k < t → rowAt W k ≡ rowFrom W (8 * k)
+  unfolding rowAt roomOf
+  row-is k h = rw (lt-ltb k (length W / 8) (omega (arith, fit .rows-fit, few .1)))
 
-      es : givenElements m t ≡ E
-      es = elements-given ∙ sym q
+  row-there : (k : ℕ) → k < t → getD (take t (m .rows)) k noRow ≡ rowFrom W (8 * k)
+  row-there k h = ap (λ (l : List Row). getD l k noRow) rows-given ∙ up-to-at (rowAt W) t k noRow h ∙ row-is k h
 
-      vertices : length F / 3 ≡ i
-      vertices = omega (arith, ap length p ∙ length-take-le (3 * i) P points-within)
+  read-there : Views (cells W (gridOf true t)) (rootCells m t)
+  read-there = record { long = refl; same = λ k q h l. sym (ap (λ (r : Row). at (cornersOf r) q) (row-there k h) ∙ each-of-four (λ q. at (cornersOf (rowFrom W (8 * k))) q ≡ getD W (8 * k + q) 0) (rw add-zero) refl refl refl q l) }
 
-      elements : length E / 4 ≡ t
-      elements = omega (arith, ap length q ∙ length-flat vertexCells 4 (λ r. refl) (upTo (rowAt W) t), length-up-to (rowAt W) t)
+  -- so is the answer of `agrees`, in memory for the index
+  module _ (S : List ℕ) (room : 20000 + 4 * t ≤ length S) {b : Bool} (e : b ≡ (workable (length (take (3 * i - 0) P)) t (length (take (20000 + 4 * t - 0) S)) && agreed (take (3 * i - 0) P) (cells W (gridOf true t)) R W)) where
+    abbrev F : List Float
+    F = take (3 * i - 0) P
 
-      to : Alike F E R W → Afresh m i t
-      to s = record {
-        opens = rw (fs, es) (rw (vertices, elements) at (s .opens));
-        colours = rw (fs, es, colours-given) (rw vertices at (s .colours));
-        rows = rw (fs, es, rows-given) (rw elements at (s .rows));
-      }
+    abbrev memory : ℕ
+    memory = length (take (20000 + 4 * t - 0) S)
 
-      from : Afresh m i t → Alike F E R W
-      from a = record {
-        opens = rw (vertices, elements) (rw (fs, es) at (a .opens));
-        colours = rw vertices (rw (fs, es, colours-given) at (a .colours));
-        rows = rw elements (rw (fs, es, rows-given) at (a .rows));
-      }
+    p : F ≡ take (3 * i) P
+    p = rw sub-zero
+
+    enough : 20000 + 4 * t ≤ memory
+    enough = rw (sub-zero (20000 + 4 * t), length-take-le (20000 + 4 * t) S room) (omega arith)
+
+    fs : givenPoints m i ≡ F
+    fs = points-given ∙ sym p
+
+    long : length F ≡ 3 * i
+    long = ap length p ∙ length-take-le (3 * i) P points-within
+
+    vertices : length F / 3 ≡ i
+    vertices = omega (arith, long)
+
+    abbrev C : Cells
+    C = cells W (gridOf true t)
+
+    to : Workable (length F) t memory → Alike F (rootCells m t) R W → Afresh m i t
+    to w s = record {
+      some = w .some;
+      opens = rw fs (s .opens);
+      colours = rw (fs, colours-given) (rw vertices at (s .colours));
+      rows = rw fs (s .rows) ∙ ap (map childless) (sym rows-given);
+    }
+
+    from : Afresh m i t → Alike F (rootCells m t) R W
+    from a = record {
+      opens = rw fs at (a .opens);
+      colours = rw vertices (rw (fs, colours-given) at (a .colours));
+      rows = rw fs at (a .rows) ∙ ap (map childless) rows-given;
+    }
+
+    works : Afresh m i t → Workable (length F) t memory
+    works a = record { moderate = record { few-coordinates = omega (arith, long, points-few); few-elements = rows-few }; some = a .some; room = enough }
+
+    pub decides-afresh : Decides (Afresh m i t) b
+    decides-afresh = record {
+      yes = λ y. let (w, s) = both _ _ (sym e ∙ y) in to (workable-means (length F) t memory w) (views-alike read-there F R W (agreed-alike F C R W s));
+      no = λ n a. true≢false (sym (rw (means-workable (length F) t memory (works a)) (alike-agreed F C R W (views-alike (views-back read-there) F R W (from a)))) ∙ sym e ∙ n);
+    }

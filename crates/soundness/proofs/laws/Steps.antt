@@ -1,13 +1,14 @@
--- The steps of the check put together: a table that is all zero, and what each answer says of the whole.
-use mathlib.Core.Path.{_≡_, _∙_}
+-- The steps of the check put together: a table whose heads are zero, and what each answer says of the whole.
+use mathlib.Core.Path.{_≡_, sym, ap, _∙_}
 use mathlib.Core.Bool.{Bool, true, false, not}
-use mathlib.Core.List.{List}
-use mathlib.Core.Logic.{_⊎_, inl, inr}
-use Prim.Native.Nat.{ℕ, _≤_, _<_}
+use mathlib.Core.List.{List, _++_}
+use Prim.Native.Nat.{ℕ, _+_, _-_, _*_, _≤_, _<_, min}
 use native.Mathlib.Omega.{arith}
-use lib.ListN.{getD, List·getD-eq-default}
+use borrow.Author.Tests.{leb-true, leb-false}
+use lib.Dec.{leb}
+use lib.ListN.{length, getD, take, drop, replicate, length-append, length-drop, length-replicate, getD-replicate, List·getD-append}
+use lib.Seq.{length-take-le}
 use lib.Ieee.{Float}
-use Rattle.split.proofs.laws.Places.{le-or-lt}
 use Rattle.tables.specs.declared.layout.Counts.{Counts}
 use Rattle.tables.specs.Mesh.{meshOf}
 use Rattle.sound.specs.Sound.{Sound, Afresh}
@@ -17,18 +18,21 @@ use Rattle.shape.specs.declared.answer.Shape.{Shape}
 use Rattle.shape.specs.declared.answer.Shape.the-variants.{Not, Runs}
 use Rattle.shape.specs.Shape.{Shapely, Shapes}
 use Rattle.shape.proofs.laws.Fitted.{fitting-inside}
-use Rattle.soundness.specs.Check.{Zeroed, Cleared, heads, Fresh, Run, Rising, Rest, Pairs, Clauses, AllRuled}
+use Rattle.soundness.specs.Check.{memoryFor, SoundIn, heads, Fresh, Run, Rising, Rest, Pairs, Clauses, AllRuled}
 use Rattle.soundness.proofs.laws.Checked.{initials-of, roots-of, sound-of, clauses-of, whole-of}
 
-pub zeroed-fresh : {size : ℕ} {scratch : List ℕ} → Zeroed heads size scratch → 100000 ≤ size → Fresh scratch
-zeroed-fresh z h = record { size = rw (z .size) h; clear = z .zero }
+-- a table whose first n numbers were cleared, over any n, so that no zeros are written out
+module _ (n : ℕ) (l : List ℕ) {a : List ℕ} (e : a ≡ replicate n 0) where
+  front-zero : (v : ℕ) → v < n → getD (a ++ drop n l) v 0 ≡ 0
+  front-zero v h = List·getD-append a (drop n l) 0 v (rw (e, length-replicate {A = ℕ} n 0) h) ∙ rw e (getD-replicate n v 0 0 h)
 
-pub zeroed-whole : {n m : ℕ} {l : List ℕ} → Zeroed n m l → m ≡ n → Cleared n l
-zeroed-whole {n} {l = l} z e = record { size = z .size ∙ e; zero = λ v. go v (le-or-lt n v) }
-  where
-    go : (v : ℕ) → (n ≤ v) ⊎ (v < n) → getD l v 0 ≡ 0
-    go v (inl h) = List·getD-eq-default l 0 (omega (arith, z .size))
-    go v (inr h) = z .zero v h
+  front-length : n ≤ length l → length (a ++ drop n l) ≡ length l
+  front-length h = rw (length-append a (drop n l), e, length-replicate {A = ℕ} n 0, length-drop n l) (omega arith)
+
+pub heads-fresh : (l : List ℕ) {a : List ℕ} → a ≡ replicate (length (take (heads - 0) l)) 0 → 100000 ≤ length l → Fresh (a ++ drop heads l)
+heads-fresh l {a} e h =
+    let f : a ≡ replicate heads 0 = e ∙ ap (λ (n : ℕ). replicate n 0) (length-take-le heads l (omega arith)) in
+    record { size = rw (front-length heads l f (omega arith)) h; clear = front-zero heads l f }
 
 module _ {p : List Float} {r w : List ℕ} {c : Counts} {i t : ℕ} (b : Shapely p r w c i t) where
   -- what the index of pairs relies on
@@ -111,3 +115,33 @@ module _ {p : List Float} {r w : List ℕ} {c : Counts} where
     shape-not e = decides-false (λ s. x .not e (s .initials) (s .roots) (shapely-sound s))
 
 pub ruleset shapes = (shape-runs, shape-not)
+
+-- ---- in lent memory
+
+module _ (rows memory : ℕ) where
+  pub memory-small : memory < 100000 → Decides (memoryFor rows ≤ memory) false
+  memory-small h = decides-false (λ l. omega arith)
+
+  pub memory-tested : {n : ℕ} {r : Bool} → 100000 ≤ memory → n ≡ min 100000 rows → r ≡ leb (20000 + 4 * n) memory → Decides (memoryFor rows ≤ memory) r
+  memory-tested {n} h e f = record { yes = λ y. let l = leb-true (20000 + 4 * n) memory (sym f ∙ y) in omega arith; no = λ y l. let g = leb-false (20000 + 4 * n) memory (sym f ∙ y) in omega arith }
+
+-- zeros over any length, so that none are written out
+pub enough-small : (rows n : ℕ) → n ≡ 100000 → rows ≤ 20000 → memoryFor rows ≤ length (replicate {A = ℕ} n 0)
+enough-small rows n e h = rw length-replicate (omega arith)
+
+pub enough-large : (rows n : ℕ) → n ≡ 420000 → memoryFor rows ≤ length (replicate {A = ℕ} n 0)
+enough-large rows n e = rw length-replicate (omega arith)
+
+-- enough for the index of opening
+pub roots-enough : {p : List Float} {r w : List ℕ} {c : Counts} {i t n : ℕ} → Shapely p r w c i t → memoryFor (c .rows) ≤ n → 20000 + 4 * t ≤ n
+roots-enough b h = omega (arith, b .begun .roots .within, fitting-inside (b .begun .fitting) .few-rows)
+
+pub memory-enough : (rows memory : ℕ) {e : Bool} → Decides (memoryFor rows ≤ memory) e → not e ≡ false → memoryFor rows ≤ memory
+memory-enough rows memory x n = granted x n
+
+module _ {memory : ℕ} {p : List Float} {r w : List ℕ} {c : Counts} {e : Bool} (x : Decides (memoryFor (c .rows) ≤ memory) e) where
+  pub memory-short : not e ≡ true → Decides (SoundIn memory (lent p r w) c) false
+  memory-short n = decides-false (λ s. refused x n (s .enough))
+
+  pub memory-decides : not e ≡ false → {b : Bool} → Decides (Sound (lent p r w) c) b → Decides (SoundIn memory (lent p r w) c) b
+  memory-decides n d = decides-same (λ s. record { enough = granted x n; sound = s }) (λ s. s .sound) d

@@ -13,6 +13,7 @@ use Rattle.intake.specs.declared.answer.Verdict.{Verdict}
 use Rattle.intake.specs.declared.answer.Verdict.the-variants as verdict
 use Rattle.opening.specs.declared.answer.Opened.{Opened}
 use Rattle.opening.specs.declared.answer.Opened.the-variants as opened
+use Rattle.intake.specs.Cells.{quads}
 use Rattle.opening.specs.Opening.{answer, tables, judged, openedMesh, Opens}
 use Rattle.closure.proofs.laws.Promise.{one-outcome}
 use Rattle.sound.specs.Sound.{Sound}
@@ -48,7 +49,7 @@ module _ {F : List Float} {E : List ℕ} {t : Lent} (ep : length (t .points) ≡
     record Passed : Type 0 where
       passed : v ≡ verdict.Passed
       counts : c ≡ record { vertices = length F / 3; rows = length E / 4 }
-      after : t' ≡ laid (openedMesh F E) 1536 1024 6144
+      after : t' ≡ laid (openedMesh F (quads E)) 1536 1024 6144
 
     does-pass : Passed
     does-pass = go v refl
@@ -58,7 +59,7 @@ module _ {F : List Float} {E : List ℕ} {t : Lent} (ep : length (t .points) ≡
         go verdict.Passed e = record {
           passed = e;
           counts = let y : a ≡ opened.Done (record { vertices = length F / 3; rows = length E / 4 }) = rw e at is-answer in done-counts (sym q ∙ y);
-          after = let y : t' ≡ laid (openedMesh F E) (length (t .points)) (length (t .records)) (length (t .rows)) = rw e at is-tables in rw (ep, er, ew) at y;
+          after = let y : t' ≡ laid (openedMesh F (quads E)) (length (t .points)) (length (t .records)) (length (t .rows)) = rw e at is-tables in rw (ep, er, ew) at y;
         }
 
     pub answer-sound : Sound t' c

@@ -1,15 +1,16 @@
 use Prim.Native.Nat.{_-_}
 use borrow.Author.Needs.{needs}
+use Rattle.intake.specs.Cells.{cells}
 use Rattle.intake.specs.Causes.{double}
 use Rattle.intake.proofs.laws.Loop.{Searched, searching}
 use Rattle.intake.proofs.elements.first_double.Statement.{statement}
 use Rattle.intake.proofs.elements.first_double.Tie as tie
 
 abbrev Inv-loop : tie.InvT-loop
-Inv-loop elements n k₀ k = Searched (double elements) n k
+Inv-loop elements grid n k₀ k = Searched (double (cells elements grid)) n k
 
 abbrev μ-loop : tie.MeasureT-loop
-μ-loop elements n k₀ k = n - k
+μ-loop elements grid n k₀ k = n - k
 
 loop-holds : tie.Need-loop-holds Inv-loop μ-loop
 loop-holds c = search searching

@@ -4,6 +4,7 @@ use Prim.Native.Nat.{_-_}
 use borrow.Author.Needs.{needs}
 use borrow.Author.Tests.{not-true, not-false}
 use Rattle.tables.specs.Layout.{rowAt}
+use Rattle.intake.specs.Cells.{cells}
 use Rattle.opening.specs.Order.{rootOf}
 use Rattle.opening.specs.Scratch.{colourIn}
 use Rattle.opening.specs.Agree.{sameRoot, rowsAgree}
@@ -12,10 +13,10 @@ use Rattle.opening.proofs.agree.rows_agree.Statement.{statement}
 use Rattle.opening.proofs.agree.rows_agree.Tie as tie
 
 abbrev Inv-loop : tie.InvT-loop
-Inv-loop elements paint vertices n rows count k₀ k = Agreeing (λ k. sameRoot (rowAt rows k) (rootOf n (colourIn paint) elements k)) count k
+Inv-loop elements grid paint vertices n rows count k₀ k = Agreeing (λ k. sameRoot (rowAt rows k) (rootOf n (colourIn paint) (cells elements grid) k)) count k
 
 abbrev μ-loop : tie.MeasureT-loop
-μ-loop elements paint vertices n rows count k₀ k = count - k
+μ-loop elements grid paint vertices n rows count k₀ k = count - k
 
 loop-holds : tie.Need-loop-holds Inv-loop μ-loop
 loop-holds c = agreeing-start

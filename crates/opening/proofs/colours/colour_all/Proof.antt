@@ -1,15 +1,16 @@
 -- `opening::colours::colour_all` meets its contract. The invariant: the first v vertices are coloured, none over 63. Assumes nothing.
 use Prim.Native.Nat.{_-_}
 use borrow.Author.Needs.{needs}
+use Rattle.intake.specs.Cells.{cells}
 use Rattle.opening.proofs.laws.Painted.{Colouring, colouring-start, colouring-step, colouring-stop, colouring-done}
 use Rattle.opening.proofs.colours.colour_all.Statement.{statement}
 use Rattle.opening.proofs.colours.colour_all.Tie as tie
 
 abbrev Inv-loop : tie.InvT-loop
-Inv-loop elements vertices index paint₀ v₀ paint v = Colouring vertices elements v paint
+Inv-loop elements grid vertices index paint₀ v₀ paint v = Colouring vertices (cells elements grid) v paint
 
 abbrev μ-loop : tie.MeasureT-loop
-μ-loop elements vertices index paint₀ v₀ paint v = vertices - v
+μ-loop elements grid vertices index paint₀ v₀ paint v = vertices - v
 
 loop-holds : tie.Need-loop-holds Inv-loop μ-loop
 loop-holds c = search (colouring-start, needs)

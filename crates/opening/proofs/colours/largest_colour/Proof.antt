@@ -4,20 +4,19 @@ use mathlib.Core.Logic.{⊎-elim}
 use Prim.Native.Nat.{_≤_, _-_}
 use native.Mathlib.Omega.{arith}
 use borrow.Author.Needs.{needs}
-use Rattle.opening.specs.Colours.{colours, largest}
-use Rattle.opening.proofs.laws.Colours.{largest-none}
-use Rattle.opening.proofs.laws.Painted.{largest-next}
+use Rattle.opening.specs.Scratch.{mostOf}
+use Rattle.opening.proofs.laws.Painted.{most-none, most-next}
 use Rattle.opening.proofs.colours.largest_colour.Statement.{statement}
 use Rattle.opening.proofs.colours.largest_colour.Tie as tie
 
 abbrev Inv-loop : tie.InvT-loop
-Inv-loop elements paint vertices most₀ v₀ most v = (v ≤ vertices) × (most ≡ largest (colours elements v))
+Inv-loop paint vertices most₀ v₀ most v = (v ≤ vertices) × (most ≡ mostOf paint v)
 
 abbrev μ-loop : tie.MeasureT-loop
-μ-loop elements paint vertices most₀ v₀ most v = vertices - v
+μ-loop paint vertices most₀ v₀ most v = vertices - v
 
 loop-holds : tie.Need-loop-holds Inv-loop μ-loop
-loop-holds c = (search needs, sym (largest-none (c .args .elements .now)))
+loop-holds c = (search needs, sym (most-none _))
 
 mul-if1 : tie.Need-mul-if1 Inv-loop μ-loop
 mul-if1 c = search needs
@@ -39,7 +38,7 @@ loop-less c = search needs
 
 loop-again : tie.Need-loop-again Inv-loop μ-loop
 loop-again c =
-    let n = largest-next (c .before .before .before .before .pre .1 .1) (c .before .before .before .loop .v) (search needs) in
+    let n = most-next (c .before .before .before .before .args .paint .now) (c .before .before .before .loop .v) in
     (search needs, ⊎-elim (λ w. omega arith) (λ w. omega arith) (c .if1 .came))
 
 returns : tie.Need-returns Inv-loop μ-loop

@@ -1,14 +1,15 @@
 -- `opening::colours::mark_neighbours` meets its contract. The invariant: the slots of v from `at` on are behind the walk; each next place is smaller. Assumes nothing.
 use borrow.Author.Needs.{needs}
+use Rattle.intake.specs.Cells.{cells}
 use Rattle.opening.proofs.laws.Marks.{Walked, walked-start, walked-less, walked-step, walked-size, walked-done}
 use Rattle.opening.proofs.colours.mark_neighbours.Statement.{statement}
 use Rattle.opening.proofs.colours.mark_neighbours.Tie as tie
 
 abbrev Inv-loop : tie.InvT-loop
-Inv-loop elements index paint vertices v flags₀ at₀ flags at = Walked elements paint v at flags
+Inv-loop elements grid index paint vertices v flags₀ at₀ flags at = Walked (cells elements grid) paint v at flags
 
 abbrev μ-loop : tie.MeasureT-loop
-μ-loop elements index paint vertices v flags₀ at₀ flags at = at
+μ-loop elements grid index paint vertices v flags₀ at₀ flags at = at
 
 mul-wide : tie.Need-mul-wide Inv-loop μ-loop
 mul-wide c = search needs

@@ -21,11 +21,8 @@ mul-ac c = search (products, needs)
 mul-bc : tie.Need-mul-bc
 mul-bc c = search (products, needs)
 
-mul-t13 : tie.Need-mul-t13
-mul-t13 c = search (products, needs)
-
-add-t14 : tie.Need-add-t14
-add-t14 c = search (products, needs)
+mul-t14 : tie.Need-mul-t14
+mul-t14 c = search (products, needs)
 
 add-t15 : tie.Need-add-t15
 add-t15 c = search (products, needs)
@@ -35,6 +32,9 @@ add-t16 c = search (products, needs)
 
 add-t17 : tie.Need-add-t17
 add-t17 c = search (products, needs)
+
+add-t18 : tie.Need-add-t18
+add-t18 c = search (products, needs)
 
 returns : tie.Need-returns
 returns c = search noted-held
@@ -49,9 +49,9 @@ note-spec =
     mul-ab
     mul-ac
     mul-bc
-    mul-t13
-    add-t14
+    mul-t14
     add-t15
     add-t16
     add-t17
+    add-t18
     returns)

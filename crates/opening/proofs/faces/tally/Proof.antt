@@ -1,13 +1,14 @@
 use borrow.Author.Needs.{needs}
+use Rattle.intake.specs.Cells.{cells}
 use Rattle.opening.proofs.laws.Earlier.{Tally, tallying}
 use Rattle.opening.proofs.faces.tally.Statement.{statement}
 use Rattle.opening.proofs.faces.tally.Tie as tie
 
 abbrev Inv-loop : tie.InvT-loop
-Inv-loop elements index vertices k v a b c s₀ at₀ s at = Tally elements k v a b c s at
+Inv-loop elements grid index vertices k v a b c s₀ at₀ s at = Tally (cells elements grid) k v a b c s at
 
 abbrev μ-loop : tie.MeasureT-loop
-μ-loop elements index vertices k v a b c s₀ at₀ s at = at
+μ-loop elements grid index vertices k v a b c s₀ at₀ s at = at
 
 mul-wide : tie.Need-mul-wide Inv-loop μ-loop
 mul-wide c = search (tallying, needs)

@@ -2,16 +2,17 @@ use mathlib.Core.Path.{_≡_, refl, sym}
 use Prim.Native.Nat.{_-_, _/_}
 use lib.ListN.{length}
 use borrow.Author.Needs.{needs}
+use Rattle.intake.specs.Cells.{cells}
 use Rattle.opening.proofs.laws.Indexing.{zeros-count}
 use Rattle.opening.proofs.laws.Sifting.{Sifting, sifting-start, sifting-same, sifting-next, sifting-end}
 use Rattle.opening.proofs.judge.sift.Statement.{statement}
 use Rattle.opening.proofs.judge.sift.Tie as tie
 
 abbrev Inv-loop : tie.InvT-loop
-Inv-loop elements vertices index₀ n uses₀ third₀ k₀ index uses third k = Sifting elements k third index × ((length index ≡ length index₀) × (length uses ≡ 20000))
+Inv-loop elements grid vertices index₀ n uses₀ third₀ k₀ index uses third k = Sifting (cells elements grid) k third index × ((length index ≡ length index₀) × (length uses ≡ 20000))
 
 abbrev μ-loop : tie.MeasureT-loop
-μ-loop elements vertices index₀ n uses₀ third₀ k₀ index uses third k = length elements / 4 - k
+μ-loop elements grid vertices index₀ n uses₀ third₀ k₀ index uses third k = grid .count - k
 
 loop-holds : tie.Need-loop-holds Inv-loop μ-loop
 loop-holds c = (sifting-start (c .before .before .pre .1), (refl, sym (zeros-count 20000)))

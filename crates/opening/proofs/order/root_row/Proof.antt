@@ -1,74 +1,41 @@
--- `order::root_row`: a plain element has vertices that have colours. Assumes nothing.
-use borrow.Author.Needs.{needs}
 use Rattle.opening.proofs.laws.Sorting.{read-low, root-is}
+use borrow.Author.Needs.{needs}
 use Rattle.opening.proofs.order.root_row.Statement.{statement}
 use Rattle.opening.proofs.order.root_row.Tie as tie
 
-mul-i : tie.Need-mul-i
-mul-i c = search needs
+number-at-requires : tie.Need-number-at-requires
+number-at-requires c κs = search needs
 
-mul-t9 : tie.Need-mul-t9
-mul-t9 c = search needs
+number-at-requires-2 : tie.Need-number-at-requires-2
+number-at-requires-2 c κs = search needs
 
-shared-slice-read-t11 : tie.Need-shared-slice-read-t11
-shared-slice-read-t11 c = search needs
+number-at-requires-3 : tie.Need-number-at-requires-3
+number-at-requires-3 c κs = search needs
 
-add-t12 : tie.Need-add-t12
-add-t12 c = search needs
-
-mul-t13 : tie.Need-mul-t13
-mul-t13 c = search needs
-
-shared-slice-read-t15 : tie.Need-shared-slice-read-t15
-shared-slice-read-t15 c = search needs
-
-add-t16 : tie.Need-add-t16
-add-t16 c = search needs
-
-mul-t17 : tie.Need-mul-t17
-mul-t17 c = search needs
-
-shared-slice-read-t19 : tie.Need-shared-slice-read-t19
-shared-slice-read-t19 c = search needs
-
-add-t20 : tie.Need-add-t20
-add-t20 c = search needs
-
-mul-t21 : tie.Need-mul-t21
-mul-t21 c = search needs
-
-shared-slice-read-t23 : tie.Need-shared-slice-read-t23
-shared-slice-read-t23 c = search needs
+number-at-requires-4 : tie.Need-number-at-requires-4
+number-at-requires-4 c κs = search needs
 
 sort-requires : tie.Need-sort-requires
-sort-requires c κs = (search needs, read-low _ _ (c .before .before .before .before .before .before .pre .0) (search needs))
+sort-requires c κs = (search needs, search (read-low, needs))
 
 arrange-requires : tie.Need-arrange-requires
 arrange-requires c κs = search needs
 
-cast-t11 : tie.Need-cast-t11
-cast-t11 c = search needs
+cast-t14 : tie.Need-cast-t14
+cast-t14 c = search needs
 
 returns : tie.Need-returns
-returns c = root-is _ _ _ _ _ _ (c .before .sort .ensures .0) (c .arrange .ensures)
+returns c = root-is _ _ (c .before .before .before .before .before .number-at .ensures) (c .before .before .before .before .number-at2 .ensures) (c .before .before .before .number-at3 .ensures) (c .before .before .number-at4 .ensures) _ _ _ _ (c .before .sort .ensures .0) (c .arrange .ensures)
 
 pub root-row-spec : {M : Type 1} → statement M
 root-row-spec =
     tie.close
     (tie.spec
-    mul-i
-    mul-t9
-    shared-slice-read-t11
-    add-t12
-    mul-t13
-    shared-slice-read-t15
-    add-t16
-    mul-t17
-    shared-slice-read-t19
-    add-t20
-    mul-t21
-    shared-slice-read-t23
+    number-at-requires
+    number-at-requires-2
+    number-at-requires-3
+    number-at-requires-4
     sort-requires
     arrange-requires
-    cast-t11
+    cast-t14
     returns)

@@ -2,7 +2,7 @@
 use Prim.Native.Nat.{_-_}
 use borrow.Author.Needs.{needs}
 use Rattle.tables.specs.Layout.{noFloat}
-use Rattle.opening.proofs.laws.Filling.{Cleared, clear-start, clear-next, clear-end}
+use Rattle.chain.proofs.laws.Clearing.{Cleared, clear-start, clear-next, clear-end}
 use Rattle.opening.proofs.store.clear_floats.Statement.{statement}
 use Rattle.opening.proofs.store.clear_floats.Tie as tie
 

@@ -17,11 +17,11 @@ Inv-loop paint vertices records₀ v₀ records v = Filled recordWidth recordCel
 abbrev μ-loop : tie.MeasureT-loop
 μ-loop paint vertices records₀ v₀ records v = vertices - v
 
-clear-numbers-requires : tie.Need-clear-numbers-requires Inv-loop μ-loop
-clear-numbers-requires c κs = search needs
+clear-requires : tie.Need-clear-requires Inv-loop μ-loop
+clear-requires c κs = search needs
 
 loop-holds : tie.Need-loop-holds Inv-loop μ-loop
-loop-holds c = fill-start record-table _ (c .before .before .clear-numbers .ensures) (c .before .before .before .before .before .before .pre .1 .1)
+loop-holds c = fill-start record-table _ (c .before .before .clear .ensures) (c .before .before .before .before .before .before .pre .1 .1)
 
 initial-record-requires : tie.Need-initial-record-requires Inv-loop μ-loop
 initial-record-requires c κs = search needs
@@ -39,10 +39,10 @@ loop-again : tie.Need-loop-again Inv-loop μ-loop
 loop-again c = fill-next record-table (c .before .before .before .before .before .before .loop .inv) (search needs) (c .before .before .before .initial-record .ensures) (c .before .before .write .ensures)
 
 same-length : tie.Need-same-length Inv-loop μ-loop
-same-length c = c .before .loop .inv .length-is ∙ length-cleared _ _ (c .before .before .before .before .clear-numbers .ensures)
+same-length c = c .before .loop .inv .length-is ∙ length-cleared _ _ (c .before .before .before .before .clear .ensures)
 
 returns : tie.Need-returns Inv-loop μ-loop
-returns c = fill-end record-table _ (c .before .before .before .before .clear-numbers .ensures) (c .before .loop .inv) (search needs)
+returns c = fill-end record-table _ (c .before .before .before .before .clear .ensures) (c .before .loop .inv) (search needs)
 
 pub store-records-spec : {M : Type 1} → statement M
 store-records-spec =
@@ -50,7 +50,7 @@ store-records-spec =
     (tie.spec
     Inv-loop
     μ-loop
-    clear-numbers-requires
+    clear-requires
     loop-holds
     initial-record-requires
     write-requires

@@ -1,10 +1,10 @@
-use Rattle.soundness.proofs.laws.Steps.{judging}
+use Rattle.soundness.proofs.laws.Steps.{judging, roots-enough}
 use borrow.Author.Needs.{needs}
 use Rattle.soundness.proofs.steps.judge.Statement.{statement}
 use Rattle.soundness.proofs.steps.judge.Tie as tie
 
 afresh-requires : tie.Need-afresh-requires
-afresh-requires c κs = search needs
+afresh-requires c κs = (search needs, (search needs, search (roots-enough, needs)))
 
 same-length : tie.Need-same-length
 same-length c = search needs

@@ -1,15 +1,14 @@
 use Rattle.sound.proofs.laws.Deciding.{decides-false, decides-same, refused, granted}
 use Rattle.soundness.proofs.laws.Pairs.{entered-index}
-use Rattle.soundness.proofs.laws.Steps.{zeroed-fresh}
 use borrow.Author.Needs.{needs}
 use Rattle.soundness.proofs.steps.pairs_fit.Statement.{statement}
 use Rattle.soundness.proofs.steps.pairs_fit.Tie as tie
 
-clear-requires : tie.Need-clear-requires
-clear-requires c κs = search needs
+clear-heads-requires : tie.Need-clear-heads-requires
+clear-heads-requires c κs = search needs
 
 enter-requires : tie.Need-enter-requires
-enter-requires c κs = search (zeroed-fresh, needs)
+enter-requires c κs = search needs
 
 same-length : tie.Need-same-length
 same-length c = search needs
@@ -30,7 +29,7 @@ pub pairs-fit-spec : {M : Type 1} → statement M
 pairs-fit-spec =
     tie.close
     (tie.spec
-    clear-requires
+    clear-heads-requires
     enter-requires
     same-length
     returns

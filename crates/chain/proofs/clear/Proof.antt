@@ -1,11 +1,11 @@
--- `store::clear_numbers`: the numbers before `i` are set. Assumes nothing.
+-- `clear`: the numbers before `i` are set. Assumes nothing.
 use Prim.Native.Nat.{_-_}
 use native.Mathlib.Omega.{arith}
 use lib.ListN.{length}
 use borrow.Author.Needs.{needs}
-use Rattle.opening.proofs.laws.Filling.{Cleared, clear-start, clear-next, clear-end}
-use Rattle.opening.proofs.store.clear_numbers.Statement.{statement}
-use Rattle.opening.proofs.store.clear_numbers.Tie as tie
+use Rattle.chain.proofs.laws.Clearing.{Cleared, clear-start, clear-next, clear-end}
+use Rattle.chain.proofs.clear.Statement.{statement}
+use Rattle.chain.proofs.clear.Tie as tie
 
 abbrev Inv-loop : tie.InvT-loop
 Inv-loop table₀ end i₀ table i = Cleared 0 (length table₀) i table
@@ -37,8 +37,8 @@ same-length c = c .before .loop .inv .length-is
 returns : tie.Need-returns Inv-loop μ-loop
 returns c = clear-end (c .before .loop .inv) (omega arith)
 
-pub clear-numbers-spec : {M : Type 1} → statement M
-clear-numbers-spec =
+pub clear-spec : {M : Type 1} → statement M
+clear-spec =
     tie.close
     (tie.spec
     Inv-loop
