@@ -94,7 +94,7 @@ verdict c = let vertices = length (c .colours) + length (c .midpoints) in judged
 
 -- records and rows as opened
 abbrev pub start : Case → Skeleton
-start c = skeleton (openedMesh (coordinates c) (c .elements))
+start c = skeleton (openedMesh (coordinates c) (quads (c .elements)))
 
 -- records and rows by the table
 abbrev pub end : Case → Skeleton
