@@ -1,15 +1,14 @@
 -- Opened tables are sound.
-use mathlib.Core.Path.{_≡_, refl, sym, ap, subst, _∙_}
+use mathlib.Core.Path.{_≡_, refl, sym, ap, _∙_}
 use mathlib.Core.List.{List, map}
 use Prim.Native.Nat.{ℕ, _*_, _/_, _%_, _≤_, _<_}
 use native.Mathlib.Omega.{arith}
 use lib.ListN.{length, take}
 use lib.Ieee.{Float}
-use Rattle.tables.specs.declared.layout.Counts.{Counts}
 use Rattle.tables.specs.declared.record.Record.{Record}
-use Rattle.tables.specs.Layout.{noPoint, noRecord, noRow, pointAt, pointWidth, recordWidth, rowWidth}
-use Rattle.tables.specs.Mesh.{flat, meshOf, laid}
-use Rattle.tables.proofs.laws.View.{Within, countsOf, length-up-to, up-to-at, mesh-laid}
+use Rattle.tables.specs.Layout.{noPoint, noRecord, noRow, pointAt, pointWidth, recordWidth, rowWidth, started}
+use Rattle.tables.specs.Mesh.{Counting, flat, meshOf, laid}
+use Rattle.tables.proofs.laws.View.{Within, length-up-to, up-to-at, mesh-laid}
 use Rattle.intake.specs.declared.answer.Verdict.the-variants.{Passed}
 use Rattle.opening.specs.Colours.{colours, largest}
 use Rattle.opening.specs.Order.{rootOf}
@@ -152,19 +151,19 @@ module _ (F : List Float) (E : List ℕ) (lp lv lr : ℕ) (t : Tested F E lp lv 
       let r = roomy-passed (length F) (length E) lp lv lr (t .input) (t .room) in
       omega (arith, r .points-fit, r .records-fit, r .rows-fit, opened-points-length F E, opened-vertices F E, opened-rows F E)
 
-  -- and the mesh that the tables hold is the opened one
-  pub opened-mesh : meshOf (laid (openedMesh F E) lp lv lr) (record { vertices = length F / 3; rows = length E / 4 }) ≡ openedMesh F E
-  opened-mesh = (λ j. meshOf (laid (openedMesh F E) lp lv lr) (record { vertices = sym (opened-points-length F E) j; rows = sym (opened-rows F E) j })) ∙ mesh-laid (openedMesh F E) lp lv lr within
+  counting : Counting (openedMesh F E) (started (length F / 3) (length E / 4))
+  counting = record { vertices = sym (opened-points-length F E); rows = sym (opened-rows F E) }
 
-  tested-sound : Sound (laid (openedMesh F E) lp lv lr) (countsOf (openedMesh F E))
+  -- and the mesh that the tables hold is the opened one
+  pub opened-mesh : meshOf (laid (openedMesh F E) lp lv lr) (started (length F / 3) (length E / 4)) ≡ openedMesh F E
+  opened-mesh = mesh-laid (openedMesh F E) lp lv lr within counting
+
+  tested-sound : Sound (laid (openedMesh F E) lp lv lr) (started (length F / 3) (length E / 4))
   tested-sound =
-      laid-sound (openedMesh F E) lp lv lr within
+      laid-sound (openedMesh F E) lp lv lr within counting
       (rw (opened-points-length F E, opened-rows F E) room)
       (omega (arith, opened-rows F E, lengths .quarters, lengths .some))
       (length F / 3) (length E / 4) (opened-grown F E opened-afresh) (opened-conforming F E)
 
-pub opened-sound : (F : List Float) (E : List ℕ) (lp lv lr : ℕ) → judged F E lp lv lr ≡ Passed → Sound (laid (openedMesh F E) lp lv lr) (record { vertices = length F / 3; rows = length E / 4 })
-opened-sound F E lp lv lr h = subst (Sound (laid (openedMesh F E) lp lv lr)) counted (tested-sound F E lp lv lr (tested F E lp lv lr h))
-  where
-    counted : _≡_ {A = Counts} (countsOf (openedMesh F E)) (record { vertices = length F / 3; rows = length E / 4 })
-    counted = λ i. record { vertices = opened-points-length F E i; rows = opened-rows F E i }
+pub opened-sound : (F : List Float) (E : List ℕ) (lp lv lr : ℕ) → judged F E lp lv lr ≡ Passed → Sound (laid (openedMesh F E) lp lv lr) (started (length F / 3) (length E / 4))
+opened-sound F E lp lv lr h = tested-sound F E lp lv lr (tested F E lp lv lr h)
