@@ -4,6 +4,7 @@ use mathlib.Core.List.{List}
 use Prim.Native.Nat.{ℕ, _-_, _/_}
 use lib.Ieee.{Float}
 use Rattle.tables.specs.declared.layout.Counts.{Counts}
+use Rattle.tables.specs.Layout.{resized}
 use Rattle.tables.specs.Mesh.{Lent}
 use Rattle.intake.specs.declared.answer.Verdict.the-variants.{Passed}
 use Rattle.sound.specs.Sound.{Sound}
@@ -18,7 +19,7 @@ use Rattle.closure.specs.Refine.{OnRoom, OnMarks}
 
 pub record Finishes (p : List Float) (r : List ℕ) (c d : Counts) (o : Refined) (p' : List Float) : Type 0 where
   pub points : p' ≡ filled p r (c .vertices) (d .vertices)
-  pub answers : o ≡ Done d ((d .rows - c .rows) / 2)
+  pub answers : o ≡ Done (resized c (d .vertices) (d .rows)) ((d .rows - c .rows) / 2)
 
 pub record Closable (p : List Float) (r w s : List ℕ) (c : Counts) (marks : List ℕ) : Type 0 where
   pub sound : Sound (lent p r w) c

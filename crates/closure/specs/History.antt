@@ -5,6 +5,7 @@ use mathlib.Core.Logic.{_↔_, _⊎_}
 use Prim.Native.Nat.{ℕ}
 use lib.Ieee.{Float}
 use Rattle.tables.specs.declared.layout.Counts.{Counts}
+use Rattle.tables.specs.declared.layout.Size.{Size}
 use Rattle.tables.specs.Mesh.{Lent, meshOf}
 use Rattle.forest.specs.Element.{Forest, Element}
 use Rattle.forest.specs.Closed.{Forced}
@@ -42,7 +43,7 @@ abbrev pub WithMarks : Forest → Counts → Lent → Counts → List (List Elem
 WithMarks F o t c calls marks = Forced F (Marked (markedElements (meshOf t c) (o .rows) marks ∷ calls))
 
 -- the answer r of a call whose marks are all rows, in tables with this room, is refused by depth or room exactly if the set W would split an element of depth 60 or outgrow the tables (demand 3; 01, numbers 11 and 2)
-pub record RefusedExactly (F : Forest) (o room : Counts) (W : Element → Type 0) (r : Refined) : Type 0 where
+pub record RefusedExactly (F : Forest) (o : Counts) (room : Size) (W : Element → Type 0) (r : Refined) : Type 0 where
   pub deep : r ≡ Refused 11 0 ↔ DeepIn W
   pub either : ((r ≡ Refused 11 0) ⊎ (r ≡ Refused 2 0)) ↔ (DeepIn W ⊎ OutgrowsIn room F (o .vertices) W)
   pub full : (DeepIn W → ⊥) → r ≡ Refused 2 0 ↔ OutgrowsIn room F (o .vertices) W

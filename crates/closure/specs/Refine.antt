@@ -6,7 +6,8 @@ use Prim.Native.Nat.{ℕ, _-_, _/_}
 use lib.Dec.{leb}
 use lib.ListN.{length, getD}
 use Rattle.tables.specs.declared.layout.Counts.{Counts}
-use Rattle.tables.specs.Layout.{roomOf}
+use Rattle.tables.specs.declared.layout.Size.{Size}
+use Rattle.tables.specs.Layout.{roomOf, resized}
 use Rattle.tables.specs.Mesh.{Lent, meshOf, laid}
 use Rattle.tables.specs.Report.{Report, refusal, done}
 use Rattle.intake.specs.declared.answer.Found.the-variants.{At, Nowhere}
@@ -22,7 +23,7 @@ use Rattle.closure.specs.declared.answer.Refined.the-variants.{Done, Ref
 abbrev pub absent : ℕ → List ℕ → ℕ → Bool
 absent rows marks j = leb rows (getD marks j 0)
 
-abbrev pub roomIn : Lent → Counts
+abbrev pub roomIn : Lent → Size
 roomIn t = roomOf (length (t .points)) (length (t .records)) (length (t .rows))
 
 -- the numbers that each case of the answer stands for (01, "What comes back")
@@ -44,8 +45,8 @@ Engine = Skeleton → List ℕ → Skeleton → Type 0
 pub record Accepts (E : Engine) (t : Lent) (c : Counts) (marks : List ℕ) (r : Refined) (t' : Lent) : Type 0 where
   pub after : Skeleton
   pub run : E (skeleton (meshOf t c)) marks after
-  pub answers : r ≡ Done (record { vertices = length (after .records); rows = length (after .rows) }) ((length (after .rows) - c .rows) / 2)
-  pub reports : reported r ≡ done (record { vertices = length (after .records); rows = length (after .rows) }) ((length (after .rows) - c .rows) / 2)
+  pub answers : r ≡ Done (resized c (length (after .records)) (length (after .rows))) ((length (after .rows) - c .rows) / 2)
+  pub reports : reported r ≡ done (resized c (length (after .records)) (length (after .rows))) ((length (after .rows) - c .rows) / 2)
   pub leaves : t' ≡ laid (meshed (meshOf t c .points) after) (length (t .points)) (length (t .records)) (length (t .rows))
 
 -- number 2: what is needed outgrows the room

@@ -9,6 +9,7 @@ use Rattle.split.specs.declared.point.Point.{Point}
 use Rattle.split.specs.Split.{Distinct}
 use Rattle.split.specs.Row.{cornersOf, edgeOf}
 use Rattle.tables.specs.declared.layout.Counts.{Counts}
+use Rattle.tables.specs.declared.layout.Size.{Size}
 use Rattle.tables.specs.Layout.{rowWidth, recordWidth, noRecord, recordAt, rowAt}
 use Rattle.intake.specs.declared.answer.Found.the-variants.{Nowhere}
 use Rattle.run.specs.Skeleton.{Skeleton}
@@ -22,7 +23,7 @@ use Rattle.closure.specs.declared.step.Step.the-variants.{Done, Full}
 use Rattle.closure.specs.State.{rowsOf, seen, patchIn, State}
 
 -- the tables hold a mesh of these counts within the room, and zeros after it
-pub record Tables (r w s : List ℕ) (c room : Counts) : Type 0 where
+pub record Tables (r w s : List ℕ) (c : Counts) (room : Size) : Type 0 where
   pub state : State w s (c .rows)
   pub vertices-in : c .vertices ≤ room .vertices
   pub rows-in : c .rows ≤ room .rows
@@ -33,7 +34,7 @@ pub record Tables (r w s : List ℕ) (c room : Counts) : Type 0 where
   pub blank : (v : ℕ) → c .vertices ≤ v → recordAt r v ≡ noRecord
 
 -- with some points for its vertices the mesh is sound, and q is a leaf that may be split
-pub record Sure (r w s : List ℕ) (c room : Counts) (q : ℕ) : Type 0 where
+pub record Sure (r w s : List ℕ) (c : Counts) (room : Size) (q : ℕ) : Type 0 where
   pub tables : Tables r w s c room
   pub points : List Point
   pub initials : ℕ
@@ -42,26 +43,26 @@ pub record Sure (r w s : List ℕ) (c room : Counts) (q : ℕ) : Type 0 where
   pub ripe : Open (seen r w c) q
 
 -- q was refined
-pub record Ran (S : Skeleton) (q : ℕ) (room : Counts) (r w s : List ℕ) (d : Counts) : Type 0 where
+pub record Ran (S : Skeleton) (q : ℕ) (room : Size) (r w s : List ℕ) (d : Counts) : Type 0 where
   pub run : Run S q (seen r w d)
   pub reach : Reach S (seen r w d)
   pub tables : Tables r w s d room
 
 -- there was no room
-pub record Jammed (S : Skeleton) (q : ℕ) (room : Counts) (r w s : List ℕ) (d : Counts) : Type 0 where
+pub record Jammed (S : Skeleton) (q : ℕ) (room : Size) (r w s : List ℕ) (d : Counts) : Type 0 where
   pub stuck : Stuck room S q
   pub reach : Reach S (seen r w d)
   pub tables : Tables r w s d room
 
 -- refining q on the tables r and w answered o and left r', w' and s'
-pub record Refines (r w : List ℕ) (c room : Counts) (q : ℕ) (o : Step) (r' w' s' : List ℕ) : Type 0 where
+pub record Refines (r w : List ℕ) (c : Counts) (room : Size) (q : ℕ) (o : Step) (r' w' s' : List ℕ) : Type 0 where
   pub done : (d : Counts) → o ≡ Done d → Ran (seen r w c) q room r' w' s' d
   pub full : (d : Counts) → o ≡ Full d → Jammed (seen r w c) q room r' w' s' d
 
 -- ---- the patch
 
 -- one vertex more and the children of k leaves fit
-unfoldable pub fitsIn : Counts → Counts → ℕ → Bool
+unfoldable pub fitsIn : Size → Counts → ℕ → Bool
 fitsIn room d k = ltb (d .vertices) (room .vertices) && leb (d .rows + 2 * k) (room .rows)
 
 -- the k listed leaves are the patch of q's edge
@@ -70,7 +71,7 @@ pub record Patched (w s : List ℕ) (n q k : ℕ) : Type 0 where
   pub size : k ≤ n
 
 -- and no leaf blocks it
-pub record Cuttable (r w s : List ℕ) (d room : Counts) (q k : ℕ) : Type 0 where
+pub record Cuttable (r w s : List ℕ) (d : Counts) (room : Size) (q k : ℕ) : Type 0 where
   pub sure : Sure r w s d room q
   pub listed : Patched w s (d .rows) q k
   pub clear : blocking (rowsOf w (d .rows)) q ≡ Nowhere
@@ -90,12 +91,12 @@ pub record Looks (w : List ℕ) (n q : ℕ) (o : Look) (s : List ℕ) : Type 0 w
 -- ---- clearing a patch
 
 -- refining q from S comes to T, where it goes on
-pub record Towards (room : Counts) (S : Skeleton) (q : ℕ) (T : Skeleton) : Type 0 where
+pub record Towards (room : Size) (S : Skeleton) (q : ℕ) (T : Skeleton) : Type 0 where
   pub runs : (U : Skeleton) → Run T q U → Run S q U
   pub stuck : Stuck room T q → Stuck room S q
 
 -- the loop that clears the patch of q's edge is at the tables r, w and s
-pub record Clearing (r₀ w₀ : List ℕ) (c room : Counts) (q : ℕ) (r w s : List ℕ) (d : Counts) : Type 0 where
+pub record Clearing (r₀ w₀ : List ℕ) (c : Counts) (room : Size) (q : ℕ) (r w s : List ℕ) (d : Counts) : Type 0 where
   pub sure : Sure r w s d room q
   pub towards : Towards room (seen r₀ w₀ c) q (seen r w d)
   pub reach : Reach (seen r₀ w₀ c) (seen r w d)
@@ -104,11 +105,11 @@ pub record Clearing (r₀ w₀ : List ℕ) (c room : Counts) (q : ℕ) (r w s : 
   pub rows-size : length w ≡ length w₀
 
 -- no leaf blocks the patch any more
-pub record Cleared (S : Skeleton) (q : ℕ) (room : Counts) (r w s : List ℕ) (d : Counts) (k : ℕ) : Type 0 where
+pub record Cleared (S : Skeleton) (q : ℕ) (room : Size) (r w s : List ℕ) (d : Counts) (k : ℕ) : Type 0 where
   pub towards : Towards room S q (seen r w d)
   pub reach : Reach S (seen r w d)
   pub cuttable : Cuttable r w s d room q k
 
-pub record Clears (r w : List ℕ) (c room : Counts) (q : ℕ) (o : Patch) (r' w' s' : List ℕ) : Type 0 where
+pub record Clears (r w : List ℕ) (c : Counts) (room : Size) (q : ℕ) (o : Patch) (r' w' s' : List ℕ) : Type 0 where
   pub clear : (d : Counts) (k : ℕ) → o ≡ patch.Clear d k → Cleared (seen r w c) q room r' w' s' d k
   pub full : (d : Counts) → o ≡ patch.Full d → Jammed (seen r w c) q room r' w' s' d

@@ -8,6 +8,7 @@ use frame::points::fill;
 use frame::undo::undo;
 use intake::answer::Verdict;
 use tables::layout::Counts;
+use tables::layout::resized;
 ghost use Prim.Native.Nat.{_≤_};
 ghost use Rattle.sound.specs.Check.{lent};
 ghost use Rattle.closure.specs.Call.{Finishes, Closable, Closes, Callable, Calls};
@@ -19,7 +20,7 @@ fn finish(points: &mut [f64], records: &[u32], c: Counts, d: Counts) -> Refined
 {
     fill(points, records, c.vertices, d.vertices);
     Refined::Done {
-        counts: d,
+        counts: resized(c, d.vertices, d.rows),
         splits: (d.rows - c.rows) / 2,
     }
 }

@@ -3,6 +3,8 @@ use crate::patch::split_patch;
 use crate::step::Step;
 use split::row::Ends;
 use tables::layout::Counts;
+use tables::layout::Size;
+use tables::layout::resized;
 use tables::record::Record;
 ghost use mathlib.Core.Path.{_≡_};
 ghost use Prim.Native.Nat.{_+_, _*_, _≤_};
@@ -12,7 +14,7 @@ ghost use Rattle.run.specs.Run.{recordFor};
 ghost use Rattle.closure.specs.Refining.{Cuttable, Refines, fitsIn};
 
 // Whether one vertex more and the children of k leaves fit.
-fn fits(d: Counts, room: Counts, k: usize) -> bool
+fn fits(d: Counts, room: Size, k: usize) -> bool
     requires { ⌜ d .rows ≤ 100000 ⌝ }
     requires { ⌜ k ≤ 100000 ⌝ }
     ensures { λ b. ⌜ b ≡ fitsIn room d k ⌝ }
@@ -47,7 +49,7 @@ pub fn cut_patch(
     rows: &mut [u32],
     scratch: &mut [u32],
     d: Counts,
-    room: Counts,
+    room: Size,
     q: usize,
     k: usize,
 ) -> Step
@@ -59,8 +61,5 @@ pub fn cut_patch(
     }
     record_edge(records, d.vertices, edge_of(rows, q));
     split_patch(rows, scratch, d.rows, k, d.vertices as u32);
-    Step::Done(Counts {
-        vertices: d.vertices + 1,
-        rows: d.rows + 2 * k,
-    })
+    Step::Done(resized(d, d.vertices + 1, d.rows + 2 * k))
 }

@@ -3,6 +3,7 @@ use crate::refining::refine_leaf;
 use crate::step::Step;
 use chain::wide;
 use tables::layout::Counts;
+use tables::layout::Size;
 ghost use Prim.Native.Nat.{_<_};
 ghost use Rattle.closure.specs.Marking.{Due, Marks, Passes, AllDue};
 
@@ -12,7 +13,7 @@ fn refine_mark(
     rows: &mut [u32],
     scratch: &mut [u32],
     c: Counts,
-    room: Counts,
+    room: Size,
     q: usize,
 ) -> Step
     requires { ⌜ Due (now records) (now rows) (now scratch) c room q ⌝ }
@@ -30,7 +31,7 @@ pub fn refine_marks(
     rows: &mut [u32],
     scratch: &mut [u32],
     c: Counts,
-    room: Counts,
+    room: Size,
     marks: &[u32],
 ) -> Step
     requires { ⌜ AllDue (now records) (now rows) (now scratch) c room (now marks) ⌝ }

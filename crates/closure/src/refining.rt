@@ -5,6 +5,7 @@ use crate::step::Patch;
 use crate::step::Step;
 use intake::answer::Found;
 use tables::layout::Counts;
+use tables::layout::Size;
 ghost use Rattle.closure.specs.Refining.{Sure, Refines, Clears};
 
 // Refines leaf q. The generation of the edge falls from a leaf to the one that blocks it.
@@ -13,7 +14,7 @@ pub fn refine_leaf(
     rows: &mut [u32],
     scratch: &mut [u32],
     c: Counts,
-    room: Counts,
+    room: Size,
     q: usize,
 ) -> Step
     requires { ⌜ Sure (now records) (now rows) (now scratch) c room q ⌝ }
@@ -34,7 +35,7 @@ fn clear_patch(
     rows: &mut [u32],
     scratch: &mut [u32],
     c: Counts,
-    room: Counts,
+    room: Size,
     q: usize,
 ) -> Patch
     requires { ⌜ Sure (now records) (now rows) (now scratch) c room q ⌝ }

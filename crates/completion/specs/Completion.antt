@@ -8,7 +8,7 @@ use lib.ListN.{length, getD}
 use Rattle.split.specs.declared.row.Row.{Row}
 use Rattle.split.specs.declared.row.Ends.{Ends}
 use Rattle.split.specs.Row.{pair, edgeOf}
-use Rattle.tables.specs.declared.layout.Counts.{Counts}
+use Rattle.tables.specs.declared.layout.Size.{Size}
 use Rattle.tables.specs.declared.record.Record.{Record}
 use Rattle.tables.specs.Layout.{noRecord}
 use Rattle.intake.specs.declared.answer.Found.{Found}
@@ -72,12 +72,12 @@ pub record Completed (S : Skeleton) (marks : List ℕ) (S' : Skeleton) : Type 0 
 -- ---- room
 
 -- the loop comes to a split that has no room
-pub data StuckLoop (room : Counts) : Skeleton → Type 0 where
+pub data StuckLoop (room : Size) : Skeleton → Type 0 where
   full : {S : Skeleton} {q : ℕ} → lowest S ≡ At q → Over room (splitOne S q) → StuckLoop room S
   onward : {S : Skeleton} {q : ℕ} → lowest S ≡ At q → Within room (splitOne S q) → StuckLoop room (splitOne S q) → StuckLoop room S
 
 -- the marks, or the loop after them, come to a split that has no room
-pub data Stuck (room : Counts) : Skeleton → List ℕ → Type 0 where
+pub data Stuck (room : Size) : Skeleton → List ℕ → Type 0 where
   loop : {S : Skeleton} → StuckLoop room S → Stuck room S []
   passed : {S : Skeleton} {r : ℕ} {rs : List ℕ} → (rowIn (S .rows) r .child ≡ 0 → ⊥) → Stuck room S rs → Stuck room S (r ∷ rs)
   full : {S : Skeleton} {r : ℕ} {rs : List ℕ} → rowIn (S .rows) r .child ≡ 0 → Over room (splitOne S r) → Stuck room S (r ∷ rs)

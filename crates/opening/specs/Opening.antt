@@ -5,7 +5,7 @@ use Prim.Native.Nat.{ℕ, _/_}
 use lib.ListN.{length, getD}
 use lib.Ieee.{Float}
 use Rattle.tables.specs.declared.record.Record.{Record}
-use Rattle.tables.specs.Layout.{pointAt}
+use Rattle.tables.specs.Layout.{pointAt, started}
 use Rattle.tables.specs.Mesh.{Lent, Mesh, upTo, laid}
 use Rattle.tables.specs.Report.{Report, refusal, done}
 use Rattle.intake.specs.declared.answer.Verdict.{Verdict}
@@ -45,7 +45,7 @@ openedMesh F E =
 -- the answer: the counts of the mesh, or the refusal
 abbrev pub answer : Verdict → ℕ → ℕ → Opened
 answer (verdict.Refused n p) vertices rows = opened.Refused n p
-answer verdict.Passed vertices rows = opened.Done (record { vertices = vertices; rows = rows })
+answer verdict.Passed vertices rows = opened.Done (started vertices rows)
 
 -- the numbers that each case of the answer stands for; opening splits nothing (01, "What comes back")
 abbrev pub reported : Opened → Report
@@ -55,7 +55,7 @@ reported (opened.Refused n p) = refusal n p
 -- the numbers that the verdict asks for
 abbrev pub report : Verdict → ℕ → ℕ → Report
 report (verdict.Refused n p) vertices rows = refusal n p
-report verdict.Passed vertices rows = done (record { vertices = vertices; rows = rows }) 0
+report verdict.Passed vertices rows = done (started vertices rows) 0
 
 -- the tables: as at entry where refused, else the mesh and zeros after it, to the end of the lent tables
 abbrev pub tables : Verdict → List Float → List ℕ → Lent → Lent

@@ -3,7 +3,7 @@ use crate::answer::Opened;
 use crate::colours::PAINT;
 use intake::answer::Verdict;
 use intake::grid::Grid;
-use tables::layout::Counts;
+use tables::layout::started;
 
 pub mod agree;
 pub mod answer;
@@ -67,8 +67,5 @@ pub fn open(
         return Opened::Refused { number, place };
     }
     store_all(coordinates, elements, &paint, points, records, rows);
-    Opened::Done(Counts {
-        vertices: coordinates.len() / 3,
-        rows: elements.len() / 4,
-    })
+    Opened::Done(started(coordinates.len() / 3, elements.len() / 4))
 }

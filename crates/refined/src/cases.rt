@@ -4,6 +4,7 @@ use closure::answer::Refined;
 use libc::STDOUT_FILENO;
 use opening::answer::Opened;
 use tables::layout::Counts;
+use tables::layout::started;
 ghost use Prim.Native.Nat.{_≤_};
 
 // The counts that hold after a call.
@@ -172,16 +173,10 @@ fn unsound() {
     let mut points = [0.0f64; 12];
     let mut records = [0u32; 8];
     let mut rows = [0u32; 8];
-    let c = Counts {
-        vertices: 4,
-        rows: 1,
-    };
+    let c = started(4, 1);
     call(&mut points, &mut records, &mut rows, c, &[0]);
     listed(&points, &records, &rows, c);
-    let d = Counts {
-        vertices: 18446744073709551615,
-        rows: 18446744073709551615,
-    };
+    let d = started(18446744073709551615, 18446744073709551615);
     call(&mut points, &mut records, &mut rows, d, &[0]);
 }
 

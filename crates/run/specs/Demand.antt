@@ -3,7 +3,7 @@ use mathlib.Core.Path.{_≡_}
 use mathlib.Core.List.{List, map, List·Memᴰ, List·Nodup}
 use Prim.Native.Nat.{ℕ, _+_, _*_, _<_}
 use lib.ListN.{length}
-use Rattle.tables.specs.declared.layout.Counts.{Counts}
+use Rattle.tables.specs.declared.layout.Size.{Size}
 use Rattle.tables.specs.Mesh.{Mesh}
 use Rattle.forest.specs.Element.{Name, Forest, Element, depth, middle, shape}
 use Rattle.forest.specs.Closed.{Forced}
@@ -25,7 +25,7 @@ pub record HalvedIn (F : Forest) (S : Element → Type 0) (x : Name) : Type 0 wh
   pub is : middle (shape F element) ≡ x
 
 -- over the roots F with the given number of initial vertices, it needs more vertices or rows than there is room for: number 2 (01, "What comes back"). Each split adds two rows and each halved edge one vertex.
-pub data OutgrowsIn (room : Counts) (F : Forest) (initials : ℕ) (S : Element → Type 0) : Type 0 where
+pub data OutgrowsIn (room : Size) (F : Forest) (initials : ℕ) (S : Element → Type 0) : Type 0 where
   rows : (es : List Element) → List·Nodup es → ((e : Element) → List·Memᴰ e es → S e) → room .rows < F .count + 2 * length es → OutgrowsIn room F initials S
   vertices : (xs : List Name) → List·Nodup xs → ((x : Name) → List·Memᴰ x xs → HalvedIn F S x) → room .vertices < initials + length xs → OutgrowsIn room F initials S
 
@@ -50,5 +50,5 @@ unfoldable pub Deep : Mesh → ℕ → List ℕ → Type 0
 Deep m t marks = DeepIn (Needed m t marks)
 
 -- room refuses it
-unfoldable pub Outgrows : Counts → Mesh → ℕ → ℕ → List ℕ → Type 0
+unfoldable pub Outgrows : Size → Mesh → ℕ → ℕ → List ℕ → Type 0
 Outgrows room m i t marks = OutgrowsIn room (forestOf m t) i (Needed m t marks)

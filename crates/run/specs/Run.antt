@@ -8,7 +8,7 @@ use lib.ListN.{length, set}
 use Rattle.split.specs.declared.row.Row.{Row}
 use Rattle.split.specs.declared.row.Ends.{Ends}
 use Rattle.split.specs.Row.{edgeOf, firstOf, secondOf}
-use Rattle.tables.specs.declared.layout.Counts.{Counts}
+use Rattle.tables.specs.declared.layout.Size.{Size}
 use Rattle.tables.specs.declared.record.Record.{Record}
 use Rattle.intake.specs.declared.answer.Found.{Found}
 use Rattle.intake.specs.declared.answer.Found.the-variants.{At, Nowhere}
@@ -90,21 +90,21 @@ pub data Calls : Skeleton → List (List ℕ) → Skeleton → Type 0 where
 
 -- ---- room
 
-pub record Within (room : Counts) (S : Skeleton) : Type 0 where
+pub record Within (room : Size) (S : Skeleton) : Type 0 where
   pub vertices : length (S .records) ≤ room .vertices
   pub rows : length (S .rows) ≤ room .rows
 
-pub data Over (room : Counts) (S : Skeleton) : Type 0 where
+pub data Over (room : Size) (S : Skeleton) : Type 0 where
   vertices : room .vertices < length (S .records) → Over room S
   rows : room .rows < length (S .rows) → Over room S
 
 -- refining leaf r comes to a patch whose split has no room
-pub data Stuck (room : Counts) : Skeleton → ℕ → Type 0 where
+pub data Stuck (room : Size) : Skeleton → ℕ → Type 0 where
   full : {S : Skeleton} {r : ℕ} → blocking (S .rows) r ≡ Nowhere → Over room (splitPatch S r) → Stuck room S r
   below : {S : Skeleton} {r b : ℕ} → blocking (S .rows) r ≡ At b → Stuck room S b → Stuck room S r
   after : {S T : Skeleton} {r b : ℕ} → blocking (S .rows) r ≡ At b → Run S b T → Within room T → Stuck room T r → Stuck room S r
 
-pub data StuckAll (room : Counts) : Skeleton → List ℕ → Type 0 where
+pub data StuckAll (room : Size) : Skeleton → List ℕ → Type 0 where
   here : {S : Skeleton} {r : ℕ} {rs : List ℕ} → rowIn (S .rows) r .child ≡ 0 → Stuck room S r → StuckAll room S (r ∷ rs)
   passed : {S : Skeleton} {r : ℕ} {rs : List ℕ} → (rowIn (S .rows) r .child ≡ 0 → ⊥) → StuckAll room S rs → StuckAll room S (r ∷ rs)
   refined : {S T : Skeleton} {r : ℕ} {rs : List ℕ} → rowIn (S .rows) r .child ≡ 0 → Run S r T → Within room T → StuckAll room T rs → StuckAll room S (r ∷ rs)

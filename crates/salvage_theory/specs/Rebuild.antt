@@ -6,7 +6,7 @@ use lib.ListN.{take}
 use Rattle.split.specs.declared.row.Row.{Row}
 use Rattle.split.specs.declared.point.Point.{Point}
 use Rattle.split.specs.Split.{Side}
-use Rattle.tables.specs.declared.layout.Counts.{Counts}
+use Rattle.tables.specs.declared.layout.Size.{Size}
 use Rattle.tables.specs.Mesh.{Mesh}
 use Rattle.forest.specs.Element.{Element, el}
 use Rattle.forest.specs.Closed.{Forced}
@@ -54,6 +54,6 @@ pub record KeptDeep (m : Mesh) (t : ℕ) : Type 0 where
   pub deep : rowOf m row .depth ≡ 60
 
 -- the opened mesh has no room, or the rebuild comes to a patch whose split has none (02, L13: 2)
-pub data Stalled (room : Counts) (m : Mesh) (i t : ℕ) : Type 0 where
+pub data Stalled (room : Size) (m : Mesh) (i t : ℕ) : Type 0 where
   start : Over room (opened m i t) → Stalled room m i t
   stuck : {n : ℕ} {e : Element} {T : Skeleton} → Rebuilt m i t n T → Within room T → Kept m t n e → StuckAll room T (find (T .rows) e ∷ []) → Stalled room m i t

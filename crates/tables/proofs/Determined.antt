@@ -2,6 +2,8 @@
 -- `write` returns nothing: its outcome is what the table holds at exit, the first part of `s`. Of `element` it is what the part shows.
 use mathlib.Core.Path.{_≡_, sym, _∙_}
 use denote.Ref.{now}
+use Rattle.tables.proofs.layout.started.Reads as started
+use Rattle.tables.proofs.layout.resized.Reads as resized
 use Rattle.tables.proofs.layout.least.Reads as least
 use Rattle.tables.proofs.layout.room.Reads as room
 use Rattle.tables.proofs.row.read.Reads as row-read
@@ -11,6 +13,12 @@ use Rattle.tables.proofs.record.write.Reads as record-write
 use Rattle.tables.proofs.point.read.Reads as point-read
 use Rattle.tables.proofs.point.write.Reads as point-write
 use Rattle.tables.proofs.show.element.Reads as element
+
+pub started-determined : (κs : _) (a : _) (r r' : _) (s s' : _) → started.Learnt κs a r s → started.Learnt κs a r' s' → r ≡ r'
+started-determined κs a r r' s s' p q = p ∙ sym q
+
+pub resized-determined : (κs : _) (a : _) (r r' : _) (s s' : _) → resized.Learnt κs a r s → resized.Learnt κs a r' s' → r ≡ r'
+resized-determined κs a r r' s s' p q = p ∙ sym q
 
 pub least-determined : (κs : _) (a : _) (r r' : _) (s s' : _) → least.Learnt κs a r s → least.Learnt κs a r' s' → r ≡ r'
 least-determined κs a r r' s s' p q = p ∙ sym q

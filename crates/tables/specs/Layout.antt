@@ -1,4 +1,4 @@
--- The three lent tables (01, "The tables"): how wide each is, what stands at a number, and the room that they give.
+-- The three lent tables (01, "The tables"): how wide each is, what stands at a number, the room that they give, and the counts of what they hold.
 use mathlib.Core.Bool.{_&&_, cond}
 use mathlib.Core.List.{List, [], _∷_}
 use Prim.Native.Nat.{ℕ, _+_, _*_, _/_, min}
@@ -9,6 +9,7 @@ use lib.Ieee.{Float, nan, binary64, ofBits}
 use Rattle.split.specs.declared.row.Row.{Row}
 use Rattle.split.specs.declared.point.Point.{Point}
 use Rattle.tables.specs.declared.layout.Counts.{Counts}
+use Rattle.tables.specs.declared.layout.Size.{Size}
 use Rattle.tables.specs.declared.record.Record.{Record}
 
 -- three f64 a vertex, two u32 a vertex, eight u32 a row
@@ -83,9 +84,24 @@ putRecord l k r = cond (ltb k (length l / recordWidth)) (sets l (recordWidth * k
 unfoldable pub putRow : List ℕ → ℕ → Row → List ℕ
 putRow l k r = cond (ltb k (length l / rowWidth)) (sets l (rowWidth * k) (rowCells r)) l
 
+-- the counts of an opened mesh, and of the same mesh with so many vertices and rows (01, "The tables", "What comes back")
+abbrev pub started : ℕ → ℕ → Counts
+started vertices rows = record { vertices = vertices; rows = rows }
+
+abbrev pub resized : Counts → ℕ → ℕ → Counts
+resized c vertices rows = record { vertices = vertices; rows = rows }
+
+-- a refusal's counts are zero (01, "What comes back")
+abbrev pub noCounts : Counts
+noCounts = started 0 0
+
+-- room for so many vertices and rows
+abbrev pub sized : ℕ → ℕ → Size
+sized vertices rows = record { vertices = vertices; rows = rows }
+
 -- room is at most 20,000 vertices, the smaller of what the coordinate and vertex tables hold, and 100,000 rows (01, "The tables")
-unfoldable pub roomOf : ℕ → ℕ → ℕ → Counts
-roomOf points records rows = record { vertices = min 20000 (min (points / pointWidth) (records / recordWidth)); rows = min 100000 (rows / rowWidth) }
+unfoldable pub roomOf : ℕ → ℕ → ℕ → Size
+roomOf points records rows = sized (min 20000 (min (points / pointWidth) (records / recordWidth))) (min 100000 (rows / rowWidth))
 
 -- an element shown: four numbers from eight times the row, or the empty part (01, "What comes back")
 unfoldable pub shown : List ℕ → ℕ → ℕ → List ℕ

@@ -40,6 +40,11 @@ padded n z l = l ++ replicate (n - length l) z
 unfoldable pub meshOf : Lent → Counts → Mesh
 meshOf t c = record { points = upTo (pointAt (t .points)) (c .vertices); records = upTo (recordAt (t .records)) (c .vertices); rows = upTo (rowAt (t .rows)) (c .rows) }
 
+-- the counts are those of the mesh: as many vertices and rows as it has (01, "The tables")
+pub record Counting (m : Mesh) (c : Counts) : Type 0 where
+  pub vertices : c .vertices ≡ length (m .points)
+  pub rows : c .rows ≡ length (m .rows)
+
 -- tables of the given lengths that hold the mesh and zeros after it
 unfoldable pub laid : Mesh → ℕ → ℕ → ℕ → Lent
 laid m points records rows = record {

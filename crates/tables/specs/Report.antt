@@ -1,22 +1,22 @@
 -- What a call comes back with, as the numbers of document 01; each answer enum has one definition that gives them.
 use Prim.Native.Nat.{ℕ}
 use Rattle.tables.specs.declared.layout.Counts.{Counts}
+use Rattle.tables.specs.Layout.{noCounts}
 
 -- what opening and refining come back with (01, "What comes back")
 pub record Report : Type 0 where
   pub number : ℕ
   pub place : ℕ
-  pub vertices : ℕ
-  pub rows : ℕ
+  pub counts : Counts
   pub splits : ℕ
 
 -- its number and place, zero counts and zero splits (01, "What comes back")
 abbrev pub refusal : ℕ → ℕ → Report
-refusal number place = record { number = number; place = place; vertices = 0; rows = 0; splits = 0 }
+refusal number place = record { number = number; place = place; counts = noCounts; splits = 0 }
 
 -- number 0, place 0, the counts and the splits (01, "What comes back", its row for done)
 abbrev pub done : Counts → ℕ → Report
-done c splits = record { number = 0; place = 0; vertices = c .vertices; rows = c .rows; splits = splits }
+done c splits = record { number = 0; place = 0; counts = c; splits = splits }
 
 -- what listing comes back with: it changes no count and splits nothing (01, "What comes back")
 pub record Tally : Type 0 where

@@ -25,7 +25,7 @@ use Rattle.text.specs.Output.{cLine, lLine, pLines, lLines, texts}
 
 -- C, number, vertices, rows, splits; if refused C, number, place, 0, 0
 unfoldable pub headline : Report → List ℕ
-headline r = cond (eqb (r .number) 0) (cLine 0 (r .vertices) (r .rows) (r .splits)) (cLine (r .number) (r .place) 0 0)
+headline r = cond (eqb (r .number) 0) (cLine 0 (r .counts .vertices) (r .counts .rows) (r .splits)) (cLine (r .number) (r .place) 0 0)
 
 -- L lines of all leaves, in the order of the listing
 unfoldable pub leafLines : Lent → Counts → List ℕ

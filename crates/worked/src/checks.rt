@@ -2,7 +2,7 @@
 use crate::show;
 use libc::STDOUT_FILENO;
 use opening::answer::Opened;
-use tables::layout::Counts;
+use tables::layout::started;
 
 fn yes_or_no(sound: bool) {
     if sound {
@@ -10,10 +10,6 @@ fn yes_or_no(sound: bool) {
     } else {
         io::write_all(STDOUT_FILENO, b" no");
     }
-}
-
-fn counts(vertices: usize, rows: usize) -> Counts {
-    Counts { vertices, rows }
 }
 
 fn raised(x: u32) -> u32 {
@@ -45,7 +41,7 @@ fn one_record(points: &[f64], records: &mut [u32], rows: &[u32], i: usize) {
     if i < records.len() {
         let old = records[i];
         records[i] = raised(old);
-        yes_or_no(soundness::check(points, records, rows, counts(6, 6)));
+        yes_or_no(soundness::check(points, records, rows, started(6, 6)));
         records[i] = old;
     }
 }
@@ -54,7 +50,7 @@ fn one_row(points: &[f64], records: &[u32], rows: &mut [u32], i: usize) {
     if i < rows.len() {
         let old = rows[i];
         rows[i] = raised(old);
-        yes_or_no(soundness::check(points, records, rows, counts(6, 6)));
+        yes_or_no(soundness::check(points, records, rows, started(6, 6)));
         rows[i] = old;
     }
 }
@@ -83,7 +79,7 @@ fn one_point(points: &mut [f64], records: &[u32], rows: &[u32], i: usize, x: f64
     if i < points.len() {
         let old = points[i];
         points[i] = x;
-        yes_or_no(soundness::check(points, records, rows, counts(6, 6)));
+        yes_or_no(soundness::check(points, records, rows, started(6, 6)));
         points[i] = old;
     }
 }
@@ -99,15 +95,15 @@ fn some_points(points: &mut [f64], records: &[u32], rows: &[u32]) {
 
 fn odd_sizes(points: &[f64], records: &[u32], rows: &[u32]) {
     io::write_all(STDOUT_FILENO, b"sizes");
-    yes_or_no(soundness::check(points, records, rows, counts(0, 0)));
-    yes_or_no(soundness::check(points, records, rows, counts(6, 5)));
-    yes_or_no(soundness::check(points, records, rows, counts(5, 6)));
-    yes_or_no(soundness::check(points, records, rows, counts(7, 7)));
+    yes_or_no(soundness::check(points, records, rows, started(0, 0)));
+    yes_or_no(soundness::check(points, records, rows, started(6, 5)));
+    yes_or_no(soundness::check(points, records, rows, started(5, 6)));
+    yes_or_no(soundness::check(points, records, rows, started(7, 7)));
     yes_or_no(soundness::check(
         points,
         records,
         rows,
-        counts(18446744073709551615, 18446744073709551615),
+        started(18446744073709551615, 18446744073709551615),
     ));
     show::end_line();
 }
@@ -123,15 +119,15 @@ fn odd_lengths(points: &[f64], records: &[u32], rows: &[u32]) {
     if rows.len() < 56 {
         return;
     }
-    yes_or_no(soundness::check(&points[0..20], records, rows, counts(6, 6)));
-    yes_or_no(soundness::check(points, &records[0..13], rows, counts(6, 6)));
-    yes_or_no(soundness::check(points, records, &rows[0..55], counts(6, 6)));
-    yes_or_no(soundness::check(&points[0..18], &records[0..12], &rows[0..48], counts(6, 6)));
+    yes_or_no(soundness::check(&points[0..20], records, rows, started(6, 6)));
+    yes_or_no(soundness::check(points, &records[0..13], rows, started(6, 6)));
+    yes_or_no(soundness::check(points, records, &rows[0..55], started(6, 6)));
+    yes_or_no(soundness::check(&points[0..18], &records[0..12], &rows[0..48], started(6, 6)));
     show::end_line();
 }
 
 fn whole(points: &[f64], records: &[u32], rows: &[u32]) {
-    yes_or_no(soundness::check(points, records, rows, counts(6, 6)));
+    yes_or_no(soundness::check(points, records, rows, started(6, 6)));
 }
 
 // W6 with room for one vertex and one row more; `own` has the two pairs of children the other way round.

@@ -25,7 +25,7 @@ pub struct Lampethor;
 
 fn counts(mesh: &Mesh) -> tables::layout::Counts {
     let (vertices, rows) = mesh.counts;
-    tables::layout::Counts { vertices, rows }
+    tables::layout::started(vertices, rows)
 }
 
 impl Side for Lampethor {

@@ -7,7 +7,7 @@ use native.Mathlib.Omega.{arith}
 use lib.ListN.{length}
 use Rattle.tables.specs.declared.layout.Counts.{Counts}
 use Rattle.tables.specs.Layout.{noFloat}
-use Rattle.tables.specs.Mesh.{Lent, Mesh, meshOf, laid}
+use Rattle.tables.specs.Mesh.{Lent, Mesh, Counting, meshOf, laid}
 use Rattle.tables.proofs.laws.View as view
 use Rattle.tables.proofs.laws.Rows as table
 use Rattle.forest.specs.Element.{Element}
@@ -84,18 +84,18 @@ module _ {t : Lent} {c : Counts} (s : Sound t c) {marks : List ℕ} {d : Counts}
     together = end-points;
   }
 
-  counts : d ≡ view.countsOf end
-  counts = done-counts (got .accepts .answers) ∙ (λ j. record { vertices = sym end-points j; rows = length (after .rows) })
+  counting : Counting end d
+  counting = let e = done-counts (got .accepts .answers) in record { vertices = ap (λ (k : Counts). k .vertices) e ∙ sym end-points; rows = ap (λ (k : Counts). k .rows) e }
 
   splits : n ≡ (length (after .rows) - c .rows) / 2
   splits = done-splits (got .accepts .answers)
 
   pub accepted-mesh : meshOf t' d ≡ end
-  accepted-mesh = (λ j. meshOf (got .accepts .leaves j) (counts j)) ∙ view.mesh-laid end (length (t .points)) (length (t .records)) (length (t .rows)) end-fits
+  accepted-mesh = ap (λ (l : Lent). meshOf l d) (got .accepts .leaves) ∙ view.mesh-laid end (length (t .points)) (length (t .records)) (length (t .rows)) end-fits counting
 
-  laid-end : Sound (laid end (length (t .points)) (length (t .records)) (length (t .rows))) (view.countsOf end)
+  laid-end : Sound (laid end (length (t .points)) (length (t .records)) (length (t .rows))) d
   laid-end =
-      laid-sound end (length (t .points)) (length (t .records)) (length (t .rows)) end-fits
+      laid-sound end (length (t .points)) (length (t .records)) (length (t .rows)) end-fits counting
       (record {
         points-whole = s .fitting .points;
         records-whole = s .fitting .records;
@@ -106,7 +106,7 @@ module _ {t : Lent} {c : Counts} (s : Sound t c) {marks : List ℕ} {d : Counts}
       (omega (arith, grows .more-rows, sound-rows s, s .fitting .some)) (s .initials) (s .roots) (finished .ready .grown) (finished .ready .conforming)
 
   after-sound : Sound t' d
-  after-sound = subst (λ (k : Counts). Sound t' k) (sym counts) (subst (λ (l : Lent). Sound l (view.countsOf end)) (sym (got .accepts .leaves)) laid-end)
+  after-sound = subst (λ (l : Lent). Sound l d) (sym (got .accepts .leaves)) laid-end
 
   after-grown : Grown (meshOf t' d) (s .initials) (s .roots)
   after-grown = subst (λ (m : Mesh). Grown m (s .initials) (s .roots)) (sym accepted-mesh) (finished .ready .grown)

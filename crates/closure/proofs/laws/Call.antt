@@ -11,7 +11,8 @@ use lib.Ieee.{Float}
 use borrow.Author.Tests.{le-leb, lt-leb, lt-ltb, le-ltb, not-true, not-false}
 use Rattle.split.proofs.laws.Places.{le-or-lt}
 use Rattle.tables.specs.declared.layout.Counts.{Counts}
-use Rattle.tables.specs.Layout.{recordWidth, noRow, noRecord, noFloat, pointCells, recordCells, rowCells, pointAt, recordAt, rowAt, roomOf}
+use Rattle.tables.specs.declared.layout.Size.{Size}
+use Rattle.tables.specs.Layout.{recordWidth, noRow, noRecord, noFloat, pointCells, recordCells, rowCells, pointAt, recordAt, rowAt, roomOf, resized}
 use Rattle.tables.specs.Mesh.{Lent, meshOf, laid, upTo, flat, padded}
 use Rattle.tables.proofs.laws.View.{length-up-to, up-to-at}
 use Rattle.intake.specs.declared.answer.Found.the-variants.{Nowhere}
@@ -63,7 +64,7 @@ fair {w} {n} {marks} e = elim (told w n marks) [
 ]
 
 module _ {p : List Float} {r w s : List ℕ} {c : Counts} {marks : List ℕ} (x : Closable p r w s c marks) where
-  abbrev room : Counts
+  abbrev room : Size
   room = roomOf (length p) (length r) (length w)
 
   abbrev ok : Fair w (c .rows) marks
@@ -75,7 +76,7 @@ module _ {p : List Float} {r w s : List ℕ} {c : Counts} {marks : List ℕ} (x 
   pub close-index : Indexable w s (c .rows)
   close-index = entry-index (x .sound) (x .fresh)
 
-  pub close-due : {o : Counts} {s' : List ℕ} → o ≡ room → State w s' (c .rows) → AllDue r w s' c o marks
+  pub close-due : {o : Size} {s' : List ℕ} → o ≡ room → State w s' (c .rows) → AllDue r w s' c o marks
   close-due e z = rw e (record { steady = entry-steady (x .sound) z; fine = mark-fine (x .sound) marks (ok .there) (ok .shallow) })
 
   entry-within : Within room (seen r w c)
@@ -83,7 +84,7 @@ module _ {p : List Float} {r w s : List ℕ} {c : Counts} {marks : List ℕ} (x 
 
   -- ---- no room
 
-  module _ {o : Counts} (eo : o ≡ room) {r' w' s' : List ℕ} {a : Step} (k : Marks r w c o marks a r' w' s') {d : Counts} (ea : a ≡ step.Full d) where
+  module _ {o : Size} (eo : o ≡ room) {r' w' s' : List ℕ} {a : Step} (k : Marks r w c o marks a r' w' s') {d : Counts} (ea : a ≡ step.Full d) where
     abbrev f : Failed (seen r w c) marks o r' w' s' d
     f = k .full d ea
 
@@ -159,7 +160,7 @@ module _ {p : List Float} {r w s : List ℕ} {c : Counts} {marks : List ℕ} (x 
 
   -- ---- all marks done
 
-  module _ {o : Counts} (eo : o ≡ room) {r' w' s' : List ℕ} {b : Step} (k : Marks r w c o marks b r' w' s') {d : Counts} (eb : b ≡ step.Done d) where
+  module _ {o : Size} (eo : o ≡ room) {r' w' s' : List ℕ} {b : Step} (k : Marks r w c o marks b r' w' s') {d : Counts} (eb : b ≡ step.Done d) where
     abbrev ended : Ended (seen r w c) marks o r' w' s' d
     ended = k .done d eb
 
@@ -202,8 +203,8 @@ module _ {p : List Float} {r w s : List ℕ} {c : Counts} {marks : List ℕ} (x 
       rows-laid : w' ≡ padded (length w) 0 (flat rowCells (rowsOf w' (d .rows)))
       rows-laid = rw lw at (rows-padded w' (d .rows) (rw lw (x .sound .fitting .rows)) (rw lw (omega (arith, inside .1, fit .rows-fit))) (ended .tables .state .blank))
 
-      answered : a ≡ Done (record { vertices = length (recordsOf r' (d .vertices)); rows = length (rowsOf w' (d .rows)) }) ((length (rowsOf w' (d .rows)) - c .rows) / 2)
-      answered = g .answers ∙ (λ j. Done (record { vertices = sym (length-up-to (recordAt r') (d .vertices)) j; rows = sym (length-up-to (rowAt w') (d .rows)) j }) ((sym (length-up-to (rowAt w') (d .rows)) j - c .rows) / 2))
+      answered : a ≡ Done (resized c (length (recordsOf r' (d .vertices))) (length (rowsOf w' (d .rows)))) ((length (rowsOf w' (d .rows)) - c .rows) / 2)
+      answered = g .answers ∙ (λ j. Done (resized c (sym (length-up-to (recordAt r') (d .vertices)) j) (sym (length-up-to (rowAt w') (d .rows)) j)) ((sym (length-up-to (rowAt w') (d .rows)) j - c .rows) / 2))
 
       accepted : Accepts RunAll (lent p r w) c marks a (lent p' r' w')
       unfolding meshOf laid

@@ -7,6 +7,7 @@ use lib.ListN.{length}
 use Rattle.split.specs.Split.{Distinct}
 use Rattle.split.specs.Row.{cornersOf}
 use Rattle.tables.specs.declared.layout.Counts.{Counts}
+use Rattle.tables.specs.declared.layout.Size.{Size}
 use Rattle.tables.specs.Layout.{noRow, recordAt, rowAt}
 use Rattle.tables.proofs.laws.View.{length-up-to, up-to-at}
 use Rattle.intake.specs.declared.answer.Found.the-variants.{At, Nowhere}
@@ -39,19 +40,19 @@ full-counts a b e = cc
 never : {X : Type 0} (a b : Counts) (k : ℕ) → patch.Clear a k ≡ patch.Full b → X
 never a b k e = let z : _≡_ {A = ℕ} 0 1 = cc in absurd (omega arith)
 
-clears-clear : {r w r' w' s' : List ℕ} {c room d : Counts} {q k : ℕ} → Cleared (seen r w c) q room r' w' s' d k → Clears r w c room q (patch.Clear d k) r' w' s'
+clears-clear : {r w r' w' s' : List ℕ} {c : Counts} {room : Size} {d : Counts} {q k : ℕ} → Cleared (seen r w c) q room r' w' s' d k → Clears r w c room q (patch.Clear d k) r' w' s'
 clears-clear {r} {w} {r'} {w'} {s'} {c} {room} {d} {q} {k} x = record {
   clear = λ a j e. subst (λ (b : Counts). Cleared (seen r w c) q room r' w' s' b j) (clear-counts d a k j e) (subst (Cleared (seen r w c) q room r' w' s' d) (clear-size d a k j e) x);
   full = λ a e. never d a k e;
 }
 
-clears-full : {r w r' w' s' : List ℕ} {c room d : Counts} {q : ℕ} → Jammed (seen r w c) q room r' w' s' d → Clears r w c room q (patch.Full d) r' w' s'
+clears-full : {r w r' w' s' : List ℕ} {c : Counts} {room : Size} {d : Counts} {q : ℕ} → Jammed (seen r w c) q room r' w' s' d → Clears r w c room q (patch.Full d) r' w' s'
 clears-full {r} {w} {r'} {w'} {s'} {c} {room} {d} {q} x = record { clear = λ a j e. never a d j (sym e); full = λ a e. subst (Jammed (seen r w c) q room r' w' s') (full-counts d a e) x }
 
 -- ---- clearing
 
 -- only the scratch table was written
-tables-scratch : {r w s s' : List ℕ} {c room : Counts} → Tables r w s c room → State w s' (c .rows) → Tables r w s' c room
+tables-scratch : {r w s s' : List ℕ} {c : Counts} {room : Size} → Tables r w s c room → State w s' (c .rows) → Tables r w s' c room
 tables-scratch t x = record {
   state = x;
   vertices-in = t .vertices-in;
@@ -63,10 +64,10 @@ tables-scratch t x = record {
   blank = t .blank;
 }
 
-pub clearing-start : {r w s : List ℕ} {c room : Counts} {q : ℕ} → Sure r w s c room q → Clearing r w c room q r w s c
+pub clearing-start : {r w s : List ℕ} {c : Counts} {room : Size} {q : ℕ} → Sure r w s c room q → Clearing r w c room q r w s c
 clearing-start x = record { sure = x; towards = record { runs = λ U p. p; stuck = λ p. p }; reach = ready.here refl; rank = refl; records-size = refl; rows-size = refl }
 
-module _ {r₀ w₀ r w s : List ℕ} {c room d : Counts} {q : ℕ} (x : Clearing r₀ w₀ c room q r w s d) where
+module _ {r₀ w₀ r w s : List ℕ} {c : Counts} {room : Size} {d : Counts} {q : ℕ} (x : Clearing r₀ w₀ c room q r w s d) where
   size : length (rowsOf w (d .rows)) ≡ d .rows
   size = length-up-to (rowAt w) (d .rows)
 
@@ -142,7 +143,7 @@ module _ {r₀ w₀ r w s : List ℕ} {c room d : Counts} {q : ℕ} (x : Clearin
   pub rows-sized : {n : ℕ} → n ≡ length w → n ≡ length w₀
   rows-sized e = e ∙ x .rows-size
 
-pub scratch-sized : {r₀ w₀ s₀ w s : List ℕ} {c room : Counts} {q m k : ℕ} {o : Look} → Sure r₀ w₀ s₀ c room q → Looks w m k o s → {n : ℕ} → n ≡ length s → n ≡ length s₀
+pub scratch-sized : {r₀ w₀ s₀ w s : List ℕ} {c : Counts} {room : Size} {q m k : ℕ} {o : Look} → Sure r₀ w₀ s₀ c room q → Looks w m k o s → {n : ℕ} → n ≡ length s → n ≡ length s₀
 scratch-sized x l e = e ∙ l .state .size ∙ sym (x .tables .state .size)
 
 -- the measure: twice the rank, and one more for refining
@@ -153,7 +154,7 @@ pub ruleset clearing = (clearing-start, clearing-look, clearing-clear, clearing-
 
 -- ---- refining
 
-module _ {r w r' w' s' : List ℕ} {c room : Counts} {q : ℕ} {o : Patch} (x : Clears r w c room q o r' w' s') {d : Counts} where
+module _ {r w r' w' s' : List ℕ} {c : Counts} {room : Size} {q : ℕ} {o : Patch} (x : Clears r w c room q o r' w' s') {d : Counts} where
   pub refine-full : o ≡ patch.Full d → Refines r w c room q (Full d) r' w' s'
   refine-full e = refines-full (x .full d e)
 

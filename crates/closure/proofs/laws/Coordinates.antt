@@ -6,7 +6,8 @@ use Prim.Native.Nat.{ℕ, _-_, _/_}
 use native.Mathlib.Omega.{arith}
 use lib.ListN.{length}
 use Rattle.tables.specs.declared.layout.Counts.{Counts}
-use Rattle.tables.specs.Layout.{recordCells, rowCells, recordAt, rowAt, roomOf}
+use Rattle.tables.specs.declared.layout.Size.{Size}
+use Rattle.tables.specs.Layout.{recordCells, rowCells, recordAt, rowAt, roomOf, resized}
 use Rattle.tables.specs.Mesh.{Lent, meshOf, laid, upTo, flat, padded}
 use Rattle.intake.specs.declared.answer.Found.the-variants.{Nowhere}
 use Rattle.intake.specs.Search.{first}
@@ -67,7 +68,7 @@ module _ {t u : Lent} (a : Alike t u) where
         let fit = roomy (length (t .points)) (length (t .records)) (length (t .rows)) in
         let fit' = roomy (length (u .points)) (length (u .records)) (length (u .rows)) in
         let w' : Within (roomIn u) S = run-within (meshOf u c .points) (s' .initials) (s' .roots) p (sound-ready s') (sound-within s') (fit' .few-vertices) (sound-markable s' e n') (rw (sound-mesh s') f) in
-        let w : Within (roomIn t) S = subst (λ (k : Counts). Within k S) (sym same-room) w' in
+        let w : Within (roomIn t) S = subst (λ (k : Size). Within k S) (sym same-room) w' in
         enough-room (meshOf t c .points) (s .initials) (s .roots) (subst (λ (X : Skeleton). RunAll X marks S) (sym (same-skeleton c)) p) (sound-ready s) (omega (arith, w .vertices, fit .few-vertices)) (sound-markable s e n) (roomIn t) w (rw (sound-mesh s) o)
 
 -- ---- the outcomes
@@ -84,7 +85,7 @@ module _ {t u : Lent} (a : Alike t u) {r r₂ : Refined} {t' u' : Lent} where
   unfolding laid
   same-acceptance {c} {marks} x y =
       let e : x .after ≡ y .after = run-all-unique (x .run) (subst (λ (X : Skeleton). RunAll X marks (y .after)) (sym (same-skeleton a c)) (y .run)) in (
-        x .answers ∙ ap (λ (A : Skeleton). Done (record { vertices = length (A .records); rows = length (A .rows) }) ((length (A .rows) - c .rows) / 2)) e ∙ sym (y .answers),
+        x .answers ∙ ap (λ (A : Skeleton). Done (resized c (length (A .records)) (length (A .rows))) ((length (A .rows) - c .rows) / 2)) e ∙ sym (y .answers),
         ap (λ (l : Lent). l .records) (x .leaves) ∙ (λ j. padded (length (a .records j)) 0 (flat recordCells (e j .records))) ∙ sym (ap (λ (l : Lent). l .records) (y .leaves)),
         ap (λ (l : Lent). l .rows) (x .leaves) ∙ (λ j. padded (length (a .rows j)) 0 (flat rowCells (e j .rows))) ∙ sym (ap (λ (l : Lent). l .rows) (y .leaves)),
       )

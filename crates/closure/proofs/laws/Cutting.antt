@@ -13,7 +13,8 @@ use Rattle.split.specs.declared.row.Ends.{Ends}
 use Rattle.split.specs.Row.{edgeOf}
 use Rattle.split.proofs.laws.Places.{le-or-lt}
 use Rattle.tables.specs.declared.layout.Counts.{Counts}
-use Rattle.tables.specs.Layout.{recordWidth, noRow, recordAt, rowAt, putRecord}
+use Rattle.tables.specs.declared.layout.Size.{Size}
+use Rattle.tables.specs.Layout.{recordWidth, noRow, recordAt, rowAt, putRecord, resized}
 use Rattle.tables.proofs.laws.Rows.{length-put-record}
 use Rattle.tables.proofs.laws.View.{length-up-to, up-to-at}
 use Rattle.run.specs.Skeleton.{Skeleton, rowIn}
@@ -33,25 +34,25 @@ use Rattle.closure.proofs.laws.Rows.{record-other, records-next}
 
 -- ---- the answers
 
-pub refines-done : {r w r' w' s' : List ℕ} {c room d : Counts} {q : ℕ} → Ran (seen r w c) q room r' w' s' d → Refines r w c room q (Done d) r' w' s'
+pub refines-done : {r w r' w' s' : List ℕ} {c : Counts} {room : Size} {d : Counts} {q : ℕ} → Ran (seen r w c) q room r' w' s' d → Refines r w c room q (Done d) r' w' s'
 refines-done {r} {w} {r'} {w'} {s'} {c} {room} {d} {q} x = record { done = λ a e. subst (Ran (seen r w c) q room r' w' s') (done-counts d a e) x; full = λ a e. done-full d a e }
 
-pub refines-full : {r w r' w' s' : List ℕ} {c room d : Counts} {q : ℕ} → Jammed (seen r w c) q room r' w' s' d → Refines r w c room q (Full d) r' w' s'
+pub refines-full : {r w r' w' s' : List ℕ} {c : Counts} {room : Size} {d : Counts} {q : ℕ} → Jammed (seen r w c) q room r' w' s' d → Refines r w c room q (Full d) r' w' s'
 refines-full {r} {w} {r'} {w'} {s'} {c} {room} {d} {q} x = record { done = λ a e. done-full a d (sym e); full = λ a e. subst (Jammed (seen r w c) q room r' w' s') (full-counts d a e) x }
 
 -- ---- the test of room
 
-pub fits-vertices : (room d : Counts) (k : ℕ) → room .vertices ≤ d .vertices → false ≡ fitsIn room d k
+pub fits-vertices : (room : Size) (d : Counts) (k : ℕ) → room .vertices ≤ d .vertices → false ≡ fitsIn room d k
 unfolding fitsIn
 fits-vertices room d k h = rw (le-ltb (d .vertices) (room .vertices) h)
 
-pub fits-rows : (room d : Counts) (k : ℕ) → d .vertices < room .vertices → leb (d .rows + 2 * k) (room .rows) ≡ fitsIn room d k
+pub fits-rows : (room : Size) (d : Counts) (k : ℕ) → d .vertices < room .vertices → leb (d .rows + 2 * k) (room .rows) ≡ fitsIn room d k
 unfolding fitsIn
 fits-rows room d k h = rw (lt-ltb (d .vertices) (room .vertices) h)
 
 pub ruleset fitTests = (fits-vertices, fits-rows)
 
-fits-is : (room d : Counts) (k : ℕ) → fitsIn room d k ≡ true → (d .vertices < room .vertices) × (d .rows + 2 * k ≤ room .rows)
+fits-is : (room : Size) (d : Counts) (k : ℕ) → fitsIn room d k ≡ true → (d .vertices < room .vertices) × (d .rows + 2 * k ≤ room .rows)
 unfolding fitsIn
 fits-is room d k h = let (a, b) = and-both _ _ h in (ltb-true _ _ a, leb-true _ _ b)
 
@@ -79,7 +80,7 @@ patched-listed {w} {s} {n} {q} {k} p j h =
 
 -- ---- the split
 
-module _ {r w s : List ℕ} {d room : Counts} {q k : ℕ} (x : Cuttable r w s d room q k) where
+module _ {r w s : List ℕ} {d : Counts} {room : Size} {q k : ℕ} (x : Cuttable r w s d room q k) where
   abbrev T : Tables r w s d room
   T = x .sure .tables
 
@@ -140,7 +141,7 @@ module _ {r w s : List ℕ} {d room : Counts} {q k : ℕ} (x : Cuttable r w s d 
       er = eq ∙ rw eg
 
       abbrev d' : Counts
-      d' = record { vertices = d .vertices + 1; rows = d .rows + 2 * k }
+      d' = resized d (d .vertices + 1) (d .rows + 2 * k)
 
       fit : d .vertices < length r / recordWidth
       fit = omega (arith, room-is .0, T .records-fit)
@@ -158,8 +159,8 @@ module _ {r w s : List ℕ} {d room : Counts} {q k : ℕ} (x : Cuttable r w s d 
       ran : Run S q (seen r' w' d')
       ran = clear (x .clear) split-is
 
-      pub cut-done : Refines r w d room q (Done d') r' w' s'
-      cut-done =
+      cut-ran : Refines r w d room q (Done d') r' w' s'
+      cut-ran =
           let (v, n) = room-is in
           let same : length r' ≡ length r = rw er (length-put-record r (d .vertices) (recordFor e)) in
           refines-done (record {
@@ -176,5 +177,8 @@ module _ {r w s : List ℕ} {d room : Counts} {q k : ℕ} (x : Cuttable r w s d 
               blank = λ u h. rw er (record-other r (d .vertices) (recordFor e) fit u (λ y. omega arith)) ∙ T .blank u (omega arith);
             };
           })
+
+      pub cut-done : {a : Counts} → a ≡ d' → Refines r w d room q (Done a) r' w' s'
+      cut-done e = subst (λ (a : Counts). Refines r w d room q (Done a) r' w' s') (sym e) cut-ran
 
 pub ruleset cutting = (cut-few, cut-full, cut-ready, cut-done)

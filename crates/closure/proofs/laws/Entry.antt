@@ -9,6 +9,7 @@ use Rattle.split.specs.declared.row.Row.{Row}
 use Rattle.split.specs.Split.{at}
 use Rattle.split.specs.Row.{cornersOf}
 use Rattle.tables.specs.declared.layout.Counts.{Counts}
+use Rattle.tables.specs.declared.layout.Size.{Size}
 use Rattle.tables.specs.Layout.{rowWidth, recordWidth, pointWidth, noRow, pointAt, recordAt, rowAt, roomOf}
 use Rattle.tables.specs.Mesh.{Mesh, meshOf}
 use Rattle.tables.proofs.laws.View.{length-up-to, up-to-at}
@@ -40,7 +41,7 @@ module _ {p : List Float} {r w : List ℕ} {c : Counts} (s : Sound (lent p r w) 
   abbrev m : Mesh
   m = meshOf (lent p r w) c
 
-  abbrev room : Counts
+  abbrev room : Size
   room = roomOf (length p) (length r) (length w)
 
   abbrev fit : Roomy (length p) (length r) (length w)

@@ -8,6 +8,7 @@ use lib.ListN.{length, getD, drop}
 use lib.Seq.{drop-cons, drop-length}
 use Rattle.split.specs.declared.row.Row.{Row}
 use Rattle.tables.specs.declared.layout.Counts.{Counts}
+use Rattle.tables.specs.declared.layout.Size.{Size}
 use Rattle.tables.specs.Layout.{noRow, recordAt, rowAt}
 use Rattle.tables.proofs.laws.View.{length-up-to, up-to-at}
 use Rattle.run.specs.Skeleton.{rowIn}
@@ -27,10 +28,10 @@ use Rattle.closure.specs.Marking.{Steady, Fine, Due, AllDue, Passed, Pas
 -- ---- one mark
 
 -- the counts are those of the lists
-pub within-room : {r w s : List ℕ} {c room : Counts} → Tables r w s c room → Within room (seen r w c)
+pub within-room : {r w s : List ℕ} {c : Counts} {room : Size} → Tables r w s c room → Within room (seen r w c)
 within-room {r} {w} {s} {c} t = record { vertices = rw (length-up-to (recordAt r) (c .vertices)) (t .vertices-in); rows = rw (length-up-to (rowAt w) (c .rows)) (t .rows-in) }
 
-module _ {r w s : List ℕ} {c room : Counts} {q : ℕ} (x : Due r w s c room q) {held : Row} (is : held ≡ rowAt w q) where
+module _ {r w s : List ℕ} {c : Counts} {room : Size} {q : ℕ} (x : Due r w s c room q) {held : Row} (is : held ≡ rowAt w q) where
   row-is : rowIn (rowsOf w (c .rows)) q ≡ held
   row-is = up-to-at (rowAt w) (c .rows) q noRow (x .fine .there) ∙ sym is
 
@@ -71,18 +72,18 @@ pub ruleset passing = (mark-passed, mark-sure, mark-refined)
 
 -- ---- all marks
 
-pub marking-start : {r w s : List ℕ} {c room : Counts} {marks : List ℕ} → AllDue r w s c room marks → Marking r w c room marks r w s c 0
+pub marking-start : {r w s : List ℕ} {c : Counts} {room : Size} {marks : List ℕ} → AllDue r w s c room marks → Marking r w c room marks r w s c 0
 marking-start x = record { within = omega arith; due = x; runs = λ U p. p; stuck = λ p. p; reach = ready.here refl; records-size = refl; rows-size = refl }
 
 -- a row that was fine stays so
-fine-later : (r' w' : List ℕ) (d : Counts) {r w s : List ℕ} {c room : Counts} {q : ℕ} → Steady r w s c room → Reach (seen r w c) (seen r' w' d) → Fine w (c .rows) q → Fine w' (d .rows) q
+fine-later : (r' w' : List ℕ) (d : Counts) {r w s : List ℕ} {c : Counts} {room : Size} {q : ℕ} → Steady r w s c room → Reach (seen r w c) (seen r' w' d) → Fine w (c .rows) q → Fine w' (d .rows) q
 fine-later r' w' d {r} {w} {c = c} {q = q} y x f =
     let before : Markable (seen r w c) q = record { there = rw (length-up-to (rowAt w) (c .rows)) (f .there); shallow = rw (up-to-at (rowAt w) (c .rows) q noRow (f .there)) (f .shallow) } in
     let later = markable-later (reach-grows x (y .ready)) before in
     let there : q < d .rows = omega (arith, later .there, length-up-to (rowAt w') (d .rows)) in
     record { there = there; shallow = rw (← up-to-at (rowAt w') (d .rows) q noRow there) (later .shallow) }
 
-module _ {r₀ w₀ r w s marks : List ℕ} {c room d : Counts} {j : ℕ} (x : Marking r₀ w₀ c room marks r w s d j) where
+module _ {r₀ w₀ r w s marks : List ℕ} {c : Counts} {room : Size} {d : Counts} {j : ℕ} (x : Marking r₀ w₀ c room marks r w s d j) where
   module _ (h : j < length marks) {q : ℕ} (is : q ≡ getD marks j 0) where
     pub marking-due : Due r w s d room q
     marking-due = record { steady = x .due .steady; fine = rw is (x .due .fine j h) }

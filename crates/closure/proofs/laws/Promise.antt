@@ -6,6 +6,7 @@ use native.Mathlib.Omega.{arith}
 use lib.ListN.{length}
 use Rattle.split.proofs.laws.Places.{less, equal, more, against}
 use Rattle.tables.specs.declared.layout.Counts.{Counts}
+use Rattle.tables.specs.Layout.{resized}
 use Rattle.tables.specs.Mesh.{Lent, Mesh, meshOf, laid}
 use Rattle.tables.specs.Report.{Report}
 use Rattle.intake.proofs.laws.First.{found-never, found-one}
@@ -71,7 +72,7 @@ module _ {t : Lent} {r r₂ : Refined} {t' t₂ : Lent} where
     one-acceptance : Accepts E t c marks r t' → Accepts E t c marks r₂ t₂ → Same r t' r₂ t₂
     one-acceptance x y =
         let e = unique .only (x .run) (y .run) in (
-          x .answers ∙ ap (λ (A : Skeleton). Done (record { vertices = length (A .records); rows = length (A .rows) }) ((length (A .rows) - c .rows) / 2)) e ∙ sym (y .answers),
+          x .answers ∙ ap (λ (A : Skeleton). Done (resized c (length (A .records)) (length (A .rows))) ((length (A .rows) - c .rows) / 2)) e ∙ sym (y .answers),
           x .leaves ∙ ap (λ (A : Skeleton). laid (meshed (meshOf t c .points) A) (length (t .points)) (length (t .records)) (length (t .rows))) e ∙ sym (y .leaves),
         )
 
@@ -130,7 +131,7 @@ refused-number (unsound n x) = omega (arith, same-number (x .answers))
 refused-number (sound s x) = marks-number x
 
 pub report-tells : {E D : Engine} {t u : Lent} {c d : Counts} {marks others : List ℕ} (r r₂ : Refined) {t' u' : Lent} → RefinesBy E t c marks r t' → RefinesBy D u d others r₂ u' → reported r ≡ reported r₂ → r ≡ r₂
-report-tells (Done a n) (Done b m) x y e = λ i. Done (record { vertices = e i .vertices; rows = e i .rows }) (e i .splits)
+report-tells (Done a n) (Done b m) x y e = λ i. Done (e i .counts) (e i .splits)
 report-tells (Done a n) (Refused k p) x y e = let z = ap (λ (o : Report). o .number) e in absurd (omega (arith, z, refused-number y))
 report-tells (Refused k p) (Done a n) x y e = let z = ap (λ (o : Report). o .number) e in absurd (omega (arith, z, refused-number x))
 report-tells (Refused k p) (Refused l q) x y e = λ i. Refused (e i .number) (e i .place)

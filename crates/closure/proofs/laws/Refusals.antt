@@ -6,6 +6,7 @@ use Prim.Native.Nat.{ℕ}
 use native.Mathlib.Omega.{arith}
 use lib.ListN.{length}
 use Rattle.tables.specs.declared.layout.Counts.{Counts}
+use Rattle.tables.specs.declared.layout.Size.{Size}
 use Rattle.tables.specs.Mesh.{Lent, meshOf}
 use Rattle.forest.specs.Element.{Name, Forest, Element}
 use Rattle.forest.proofs.History.{since-forced, nothing-before}
@@ -32,7 +33,7 @@ module _ {S T : Element → Type 0} (same : (e : Element) → S e ↔ T e) where
   halved-along : {F : Forest} {x : Name} → HalvedIn F S x → HalvedIn F T x
   halved-along h = record { element = h .element; needed = same (h .element) .0 (h .needed); is = h .is }
 
-  outgrows-along : {room : Counts} {F : Forest} {i : ℕ} → OutgrowsIn room F i S → OutgrowsIn room F i T
+  outgrows-along : {room : Size} {F : Forest} {i : ℕ} → OutgrowsIn room F i S → OutgrowsIn room F i T
   outgrows-along (rows es once all o) = rows es once (λ e k. same e .0 (all e k)) o
   outgrows-along (vertices xs once all o) = vertices xs once (λ x k. halved-along (all x k)) o
 

@@ -6,7 +6,7 @@ use Prim.Native.Nat.{ℕ, _≤_}
 use lib.ListN.{length}
 use Rattle.split.specs.declared.point.Point.{Point}
 use Rattle.split.proofs.laws.Places.{le-or-lt}
-use Rattle.tables.specs.declared.layout.Counts.{Counts}
+use Rattle.tables.specs.declared.layout.Size.{Size}
 use Rattle.intake.specs.declared.answer.Found.the-variants.{At, Nowhere}
 use Rattle.run.specs.Skeleton.{Skeleton, rowIn, meshed}
 use Rattle.run.specs.Ready.{Ready}
@@ -15,7 +15,7 @@ use Rattle.run.specs.Demand.{Outgrows}
 use Rattle.run.proofs.laws.Needs.{AllMarkable}
 use Rattle.run.proofs.laws.Refused.{no-room}
 
-module _ (room : Counts) where
+module _ (room : Size) where
   within-or-over : (S : Skeleton) → Within room S ⊎ Over room S
   within-or-over S = elim (le-or-lt (length (S .records)) (room .vertices)) [
     | inr l ↦ inr (vertices l)
@@ -50,5 +50,5 @@ module _ (room : Counts) where
   all-ends (refined l p q) w = refined-ends l p (run-ends p) (all-ends q)
 
 -- what does not outgrow the room ends within it
-pub run-within : (P : List Point) (i t : ℕ) {S S' : Skeleton} {rs : List ℕ} {room : Counts} → RunAll S rs S' → Ready P i t S → Within room S → room .vertices ≤ 20000 → AllMarkable S rs → (Outgrows room (meshed P S) i t rs → ⊥) → Within room S'
+pub run-within : (P : List Point) (i t : ℕ) {S S' : Skeleton} {rs : List ℕ} {room : Size} → RunAll S rs S' → Ready P i t S → Within room S → room .vertices ≤ 20000 → AllMarkable S rs → (Outgrows room (meshed P S) i t rs → ⊥) → Within room S'
 run-within P i t {room = room} p y w small k n = elim (all-ends room p w) [ inl a ↦ a | inr s ↦ absurd (n (no-room P i t s y w small k)) ]

@@ -6,9 +6,9 @@ use Prim.Native.Nat.{ℕ, _≤_, _<_}
 use native.Mathlib.Omega.{arith}
 use lib.ListN.{length}
 use Rattle.tables.specs.declared.layout.Counts.{Counts}
-use Rattle.tables.specs.Layout.{pointAt, recordAt, rowAt, roomOf}
-use Rattle.tables.specs.Mesh.{Lent, Mesh, Unused, upTo, meshOf, laid}
-use Rattle.tables.proofs.laws.View.{mesh-points, Within, countsOf, mesh-laid, laid-mesh}
+use Rattle.tables.specs.Layout.{pointAt, recordAt, rowAt, roomOf, resized}
+use Rattle.tables.specs.Mesh.{Lent, Mesh, Counting, Unused, upTo, meshOf, laid}
+use Rattle.tables.proofs.laws.View.{mesh-points, Within, mesh-laid, laid-mesh}
 use Rattle.opening.proofs.laws.Counting.{count-below}
 use Rattle.sound.specs.Sound.{vertices, rows, pointOf, Sound}
 use Rattle.sound.proofs.laws.Tested.{Roomed}
@@ -70,25 +70,27 @@ module _ {t : Lent} {c : Counts} (s : Sound t c) where
       rows-fit = omega (arith, fewer-rows, s .fitting .rows-fit);
     }
 
-    -- read back from tables it is the thinned mesh
-    pub thin-mesh : meshOf (laid after (length (t .points)) (length (t .records)) (length (t .rows))) (countsOf after) ≡ after
-    thin-mesh = mesh-laid after (length (t .points)) (length (t .records)) (length (t .rows)) within
+    module _ {d : Counts} (k : Counting after d) where
+      -- read back from tables it is the thinned mesh
+      pub thin-mesh : meshOf (laid after (length (t .points)) (length (t .records)) (length (t .rows))) d ≡ after
+      thin-mesh = mesh-laid after (length (t .points)) (length (t .records)) (length (t .rows)) within k
 
-    pub thin-tables : Sound (laid after (length (t .points)) (length (t .records)) (length (t .rows))) (countsOf after)
-    thin-tables = laid-sound after (length (t .points)) (length (t .records)) (length (t .rows)) within roomed some-row (s .initials) (s .roots) (thin-grown (s .grown) f mesh-few mesh-long) (thin-conforming (s .grown) f (s .conforming))
+      pub thin-tables : Sound (laid after (length (t .points)) (length (t .records)) (length (t .rows))) d
+      thin-tables = laid-sound after (length (t .points)) (length (t .records)) (length (t .rows)) within k roomed some-row (s .initials) (s .roots) (thin-grown (s .grown) f mesh-few mesh-long) (thin-conforming (s .grown) f (s .conforming))
 
   -- sound tables with a list of vertices dropped in turn and the holes closed are sound (02, L5)
-  pub coarsened-sound : (vs : List ℕ) → Sound (laid (thinned (meshOf t c) (s .initials) (goneBy (meshOf t c) (s .initials) vs)) (length (t .points)) (length (t .records)) (length (t .rows))) (countsOf (thinned (meshOf t c) (s .initials) (goneBy (meshOf t c) (s .initials) vs)))
+  pub coarsened-sound : (vs : List ℕ) {d : Counts} → Counting (thinned (meshOf t c) (s .initials) (goneBy (meshOf t c) (s .initials) vs)) d
+      → Sound (laid (thinned (meshOf t c) (s .initials) (goneBy (meshOf t c) (s .initials) vs)) (length (t .points)) (length (t .records)) (length (t .rows))) d
   coarsened-sound vs = thin-tables (gone-free (s .grown) vs)
 
 -- ---- tables that code wrote in place
 
 -- tables that begin with what is kept, in the new numbers, hold the thinned mesh
-pub sifted-mesh : (m : Mesh) (i : ℕ) (gone : ℕ → Bool) (t' : Lent) → upTo (pointAt (t' .points)) (newVertex gone (vertices m)) ≡ sift (stays gone) (pointOf m) (vertices m)
+pub sifted-mesh : (m : Mesh) (i : ℕ) (gone : ℕ → Bool) (t' : Lent) (c : Counts) → upTo (pointAt (t' .points)) (newVertex gone (vertices m)) ≡ sift (stays gone) (pointOf m) (vertices m)
     → upTo (recordAt (t' .records)) (newVertex gone (vertices m)) ≡ sift (stays gone) (thinRecord m i gone) (vertices m) → upTo (rowAt (t' .rows)) (newRow m gone (rows m)) ≡ sift (keeps m gone) (thinRow m gone) (rows m)
-    → meshOf t' (record { vertices = newVertex gone (vertices m); rows = newRow m gone (rows m) }) ≡ thinned m i gone
+    → meshOf t' (resized c (newVertex gone (vertices m)) (newRow m gone (rows m))) ≡ thinned m i gone
 unfolding meshOf thinned
-sifted-mesh m i gone t' p r w = λ j. record { points = p j; records = r j; rows = w j }
+sifted-mesh m i gone t' c p r w = λ j. record { points = p j; records = r j; rows = w j }
 
 -- and where zeros follow, they are the thinned mesh laid into tables
 pub sifted-laid : (m : Mesh) (t' : Lent) (c' : Counts) → meshOf t' c' ≡ m → Unused t' c' → t' ≡ laid m (length (t' .points)) (length (t' .records)) (length (t' .rows))

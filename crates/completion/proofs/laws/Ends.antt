@@ -7,7 +7,7 @@ use native.Mathlib.Decide.{ℕ-discrete}
 use native.Mathlib.Omega.{arith}
 use lib.ListN.{length}
 use Rattle.split.proofs.laws.Places.{le-or-lt}
-use Rattle.tables.specs.declared.layout.Counts.{Counts}
+use Rattle.tables.specs.declared.layout.Size.{Size}
 use Rattle.intake.specs.declared.answer.Found.{Found}
 use Rattle.intake.specs.declared.answer.Found.the-variants.{At, Nowhere}
 use Rattle.run.specs.Skeleton.{Skeleton, rowIn}
@@ -19,7 +19,7 @@ use Rattle.completion.proofs.laws.Marks.{marks-leaf, marks-passed}
 use Rattle.completion.proofs.laws.One.{one-rows}
 
 -- a mesh is within the room or over it
-pub within-or-over : (room : Counts) (S : Skeleton) → Within room S ⊎ Over room S
+pub within-or-over : (room : Size) (S : Skeleton) → Within room S ⊎ Over room S
 within-or-over room S = elim (le-or-lt (length (S .records)) (room .vertices)) [
   | inr l ↦ inr (over-vertices l)
   | inl h ↦ elim (le-or-lt (length (S .rows)) (room .rows)) [ inr l ↦ inr (over-rows l) | inl k ↦ inl (record { vertices = h; rows = k }) ]
@@ -27,16 +27,16 @@ within-or-over room S = elim (le-or-lt (length (S .records)) (room .vertices)) [
 
 -- ---- the loop
 
-pub data LoopEnds (room : Counts) (S : Skeleton) : Type 0 where
+pub data LoopEnds (room : Size) (S : Skeleton) : Type 0 where
   completes : {S' : Skeleton} → Completes S S' → Within room S' → LoopEnds room S
   jams : StuckLoop room S → LoopEnds room S
 
-loop-next : {room : Counts} {S : Skeleton} {q : ℕ} → lowest S ≡ At q → Within room (splitOne S q) → LoopEnds room (splitOne S q) → LoopEnds room S
+loop-next : {room : Size} {S : Skeleton} {q : ℕ} → lowest S ≡ At q → Within room (splitOne S q) → LoopEnds room (splitOne S q) → LoopEnds room S
 loop-next k w (completes p v) = completes (onward k p) v
 loop-next k w (jams p) = jams (loop-onward k w p)
 
 -- n bounds the splits that there is still room for
-loop-within : (room : Counts) (n : ℕ) (S : Skeleton) → room .rows < length (S .rows) + n → Within room S → LoopEnds room S
+loop-within : (room : Size) (n : ℕ) (S : Skeleton) → room .rows < length (S .rows) + n → Within room S → LoopEnds room S
 loop-within room zero S h w = absurd (omega (arith, w .rows))
 loop-within room (suc n) S h w = go (lowest S) refl (loop-within room n)
   where
@@ -47,30 +47,30 @@ loop-within room (suc n) S h w = go (lowest S) refl (loop-within room n)
       | inr v ↦ jams (loop-full k v)
     ]
 
-pub loop-ends : (room : Counts) (S : Skeleton) → Within room S → LoopEnds room S
+pub loop-ends : (room : Size) (S : Skeleton) → Within room S → LoopEnds room S
 loop-ends room S w = loop-within room (suc (room .rows)) S (omega arith) w
 
 -- ---- the call
 
-pub data CallEnds (room : Counts) (S : Skeleton) (rs : List ℕ) : Type 0 where
+pub data CallEnds (room : Size) (S : Skeleton) (rs : List ℕ) : Type 0 where
   accepts : {S' : Skeleton} → Completed S rs S' → Within room S' → CallEnds room S rs
   refuses : Stuck room S rs → CallEnds room S rs
 
-call-done : {room : Counts} {S : Skeleton} → LoopEnds room S → CallEnds room S []
+call-done : {room : Size} {S : Skeleton} → LoopEnds room S → CallEnds room S []
 unfolding splitMarks
 call-done (completes p v) = accepts (record { loop = p }) v
 call-done (jams p) = refuses (loop p)
 
-call-passed : {room : Counts} {S : Skeleton} {r : ℕ} {rs : List ℕ} → (rowIn (S .rows) r .child ≡ 0 → ⊥) → CallEnds room S rs → CallEnds room S (r ∷ rs)
+call-passed : {room : Size} {S : Skeleton} {r : ℕ} {rs : List ℕ} → (rowIn (S .rows) r .child ≡ 0 → ⊥) → CallEnds room S rs → CallEnds room S (r ∷ rs)
 call-passed n (accepts {S' = T} p v) = accepts {S' = T} (record { loop = rw marks-passed (p .loop) }) v
 call-passed n (refuses p) = refuses (passed n p)
 
-call-split : {room : Counts} {S : Skeleton} {r : ℕ} {rs : List ℕ} → rowIn (S .rows) r .child ≡ 0 → Within room (splitOne S r) → CallEnds room (splitOne S r) rs → CallEnds room S (r ∷ rs)
+call-split : {room : Size} {S : Skeleton} {r : ℕ} {rs : List ℕ} → rowIn (S .rows) r .child ≡ 0 → Within room (splitOne S r) → CallEnds room (splitOne S r) rs → CallEnds room S (r ∷ rs)
 call-split l w (accepts {S' = T} p v) = accepts {S' = T} (record { loop = rw marks-leaf (p .loop) }) v
 call-split l w (refuses p) = refuses (split l w p)
 
 -- every call within the room ends, with a result or without room (02, L10: it must end)
-pub call-ends : (room : Counts) (S : Skeleton) (rs : List ℕ) → Within room S → CallEnds room S rs
+pub call-ends : (room : Size) (S : Skeleton) (rs : List ℕ) → Within room S → CallEnds room S rs
 call-ends room S [] w = call-done (loop-ends room S w)
 call-ends room S (r ∷ rs) w = elim (ℕ-discrete (rowIn (S .rows) r .child) 0) [
   | no n ↦ call-passed n (call-ends room S rs w)

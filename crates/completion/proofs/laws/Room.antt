@@ -5,7 +5,7 @@ use Prim.Native.Nat.{ℕ, _≤_, _<_}
 use native.Mathlib.Omega.{arith}
 use lib.ListN.{length}
 use Rattle.split.specs.declared.point.Point.{Point}
-use Rattle.tables.specs.declared.layout.Counts.{Counts}
+use Rattle.tables.specs.declared.layout.Size.{Size}
 use Rattle.forest.specs.Element.{Element}
 use Rattle.forest.specs.Closed.{Closed}
 use Rattle.forest.proofs.Forced.{forced-closed}
@@ -26,12 +26,12 @@ use Rattle.completion.proofs.laws.Demanded.{completed-finished}
 use Rattle.completion.proofs.laws.Ends.{CallEnds, accepts, refuses, call-ends}
 
 -- a mesh over the room that came from S by splits of single leaves, all in Z
-pub record Overrun (P : List Point) (i t : ℕ) (Z : Element → Type 0) (room : Counts) (S : Skeleton) : Type 0 where
+pub record Overrun (P : List Point) (i t : ℕ) (Z : Element → Type 0) (room : Size) (S : Skeleton) : Type 0 where
   pub mesh : Skeleton
   pub went : Went P i t Z S mesh
   pub over : Over room mesh
 
-module _ (P : List Point) (i t : ℕ) (Z : Element → Type 0) (room : Counts) (small : room .vertices ≤ 20000) where
+module _ (P : List Point) (i t : ℕ) (Z : Element → Type 0) (room : Size) (small : room .vertices ≤ 20000) where
   later : {S T : Skeleton} → Went P i t Z S T → Overrun P i t Z room T → Overrun P i t Z room S
   later a w = record { mesh = w .mesh; went = went-on P i t Z a (w .went); over = w .over }
 
@@ -54,7 +54,7 @@ module _ (P : List Point) (i t : ℕ) (Z : Element → Type 0) (room : Counts) (
 -- ---- number 2
 
 -- a call that came to its end is within a room exactly when it needs no more than that (02, L10; also of the room that a share leaves, L11)
-module _ (P : List Point) (i t : ℕ) {S S' : Skeleton} {rs : List ℕ} (p : Completed S rs S') (y : Ready P i t S) (less : length (S' .records) < 4294967295) (k : AllMarkable S rs) (room : Counts) where
+module _ (P : List Point) (i t : ℕ) {S S' : Skeleton} {rs : List ℕ} (p : Completed S rs S') (y : Ready P i t S) (less : length (S' .records) < 4294967295) (k : AllMarkable S rs) (room : Size) where
   pub completed-fits : Within room S' → Outgrows room (meshed P S) i t rs → ⊥
   unfolding Outgrows
   completed-fits w = let x = completed-finished P i t p y less k in split-fits (x .ready .grown) (x .grows .forest) (λ e. x .exactly e .1) w
@@ -63,7 +63,7 @@ module _ (P : List Point) (i t : ℕ) {S S' : Skeleton} {rs : List ℕ} (p : Com
   unfolding Outgrows
   completed-over v = let x = completed-finished P i t p y less k in split-outgrows (x .ready .grown) (x .grows .forest) (λ e. x .exactly e .0) v
 
-module _ (P : List Point) (i t : ℕ) {S : Skeleton} {rs : List ℕ} {room : Counts} (y : Ready P i t S) (f : Within room S) (small : room .vertices ≤ 20000) (k : AllMarkable S rs) where
+module _ (P : List Point) (i t : ℕ) {S : Skeleton} {rs : List ℕ} {room : Size} (y : Ready P i t S) (f : Within room S) (small : room .vertices ≤ 20000) (k : AllMarkable S rs) where
   -- no room for a split: more is needed than there is (02, L10)
   pub stuck-outgrows : Stuck room S rs → Outgrows room (meshed P S) i t rs
   unfolding Outgrows

@@ -4,9 +4,11 @@ use mathlib.Core.List.{List}
 use Prim.Native.Nat.{ℕ, _/_}
 use lib.ListN.{length, getD}
 use lib.Ieee.{Float}
-use Rattle.tables.specs.Layout.{noFloat, pointAt, pointCells, recordCells, rowCells}
+use Rattle.tables.specs.declared.layout.Counts.{Counts}
+use Rattle.tables.specs.Layout.{noFloat, pointAt, pointCells, recordCells, rowCells, started}
 use Rattle.tables.specs.Mesh.{Lent, padded, flat, upTo, laid}
 use Rattle.intake.specs.Cells.{Cells, quads}
+use Rattle.tables.specs.Report.{done}
 use Rattle.opening.specs.Colours.{colours, largest}
 use Rattle.opening.specs.Order.{rootOf}
 use Rattle.intake.specs.declared.answer.Verdict.the-variants as verdict
@@ -44,6 +46,6 @@ pub opens-refused : {F points points' : List Float} {E records records' rows row
     → points' ≡ points → records' ≡ records → rows' ≡ rows → Opens F E (lent points records rows) (opened.Refused n p) (lent points' records' rows')
 opens-refused e a b c = record { answers = rw e; reports = rw e; leaves = rw e (λ i. lent (a i) (b i) (c i)) }
 
-pub opens-passed : {F : List Float} {E : List ℕ} {t t' : Lent} → verdictOn F E t ≡ verdict.Passed
-    → t' ≡ laid (openedMesh F (quads E)) (length (t .points)) (length (t .records)) (length (t .rows)) → Opens F E t (opened.Done (record { vertices = length F / 3; rows = length E / 4 })) t'
-opens-passed e l = record { answers = rw e; reports = rw e; leaves = rw e l }
+pub opens-passed : {F : List Float} {E : List ℕ} {t t' : Lent} {c : Counts} → verdictOn F E t ≡ verdict.Passed → c ≡ started (length F / 3) (length E / 4)
+    → t' ≡ laid (openedMesh F (quads E)) (length (t .points)) (length (t .records)) (length (t .rows)) → Opens F E t (opened.Done c) t'
+opens-passed e k l = record { answers = rw e (ap opened.Done k); reports = rw e (ap (λ (d : Counts). done d 0) k); leaves = rw e l }

@@ -27,17 +27,20 @@ slice-aggregate-store-all c = sym (c .before .before .before .before .judge .ens
 store-all-requires : tie.Need-store-all-requires
 store-all-requires c κs = c .before .before .before .before .before .before .before .judge .ensures .storable (c .before .before .before .before .enum-told .given .1)
 
+started-requires : tie.Need-started-requires
+started-requires c κs = tt
+
 same-length : tie.Need-same-length
-same-length c = c .before .before .before .before .before .before .store-all .kept .1 .1 .1 .0
+same-length c = c .before .before .before .before .before .before .before .store-all .kept .1 .1 .1 .0
 
 same-length-2 : tie.Need-same-length-2
-same-length-2 c = c .before .before .before .before .before .before .store-all .kept .1 .1 .1 .1 .0
+same-length-2 c = c .before .before .before .before .before .before .before .store-all .kept .1 .1 .1 .1 .0
 
 same-length-3 : tie.Need-same-length-3
-same-length-3 c = c .before .before .before .before .before .before .store-all .kept .1 .1 .1 .1 .1 .0
+same-length-3 c = c .before .before .before .before .before .before .before .store-all .kept .1 .1 .1 .1 .1 .0
 
 returns-2 : tie.Need-returns-2
-returns-2 c = opens-passed (sym (c .before .before .before .before .before .before .before .before .before .before .before .before .before .before .judge .ensures .answer) ∙ c .before .before .before .before .before .before .before .before .before .before .before .enum-told .given .1) (c .before .before .before .before .before .before .store-all .ensures)
+returns-2 c = opens-passed (sym (c .before .before .before .before .before .before .before .before .before .before .before .before .before .before .before .judge .ensures .answer) ∙ c .before .before .before .before .before .before .before .before .before .before .before .before .enum-told .given .1) (c .started .ensures) (c .before .before .before .before .before .before .before .store-all .ensures)
 
 pub open-spec : {M : Type 1} → statement M
 open-spec =
@@ -50,6 +53,7 @@ open-spec =
     enum-told
     slice-aggregate-store-all
     store-all-requires
+    started-requires
     same-length
     same-length-2
     same-length-3

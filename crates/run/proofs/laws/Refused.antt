@@ -6,7 +6,7 @@ use native.Mathlib.Omega.{arith}
 use lib.ListN.{length, length-append}
 use Rattle.split.specs.declared.point.Point.{Point}
 use Rattle.split.specs.Row.{edgeOf}
-use Rattle.tables.specs.declared.layout.Counts.{Counts}
+use Rattle.tables.specs.declared.layout.Size.{Size}
 use Rattle.forest.specs.Element.{Element}
 use Rattle.forest.specs.Closed.{Closed}
 use Rattle.forest.proofs.Forced.{forced-closed}
@@ -26,14 +26,14 @@ unfolding splitPatch
 patch-length S r = length-append (S .records) (recordFor (edgeOf (rowIn (S .rows) r)) ∷ [])
 
 -- a mesh over the room, grown from S, all of whose splits lie in Z
-pub record Overrun (P : List Point) (i t : ℕ) (Z : Element → Type 0) (room : Counts) (S : Skeleton) : Type 0 where
+pub record Overrun (P : List Point) (i t : ℕ) (Z : Element → Type 0) (room : Size) (S : Skeleton) : Type 0 where
   pub mesh : Skeleton
   pub ready : Ready P i t mesh
   pub grows : Grows (meshed P S) (meshed P mesh) i t
   pub inside : Inside (meshed P mesh) t Z
   pub over : Over room mesh
 
-module _ (P : List Point) (i t : ℕ) (Z : Element → Type 0) (room : Counts) (small : room .vertices ≤ 20000) where
+module _ (P : List Point) (i t : ℕ) (Z : Element → Type 0) (room : Size) (small : room .vertices ≤ 20000) where
   later : {S T : Skeleton} → Grows (meshed P S) (meshed P T) i t → Overrun P i t Z room T → Overrun P i t Z room S
   later g w = record { mesh = w .mesh; ready = w .ready; grows = grows-on g (w .grows); inside = w .inside; over = w .over }
 
@@ -94,7 +94,7 @@ module _ (P : List Point) (i t : ℕ) (Z : Element → Type 0) (room : Counts) (
   pub stuck-all-over : {S : Skeleton} {rs : List ℕ} → StuckAll room S rs → Ready P i t S → Within room S → AllMarkable S rs → Closed (forestOf (meshed P S) t) Z → Inside (meshed P S) t Z → ((r : ℕ) → List·Memᴰ r rs → Z (elementOf (meshed P S) t r)) → Overrun P i t Z room S
   stuck-all-over p = leads-all p .from
 
-pub no-room : (P : List Point) (i t : ℕ) {S : Skeleton} {rs : List ℕ} {room : Counts} → StuckAll room S rs → Ready P i t S → Within room S → room .vertices ≤ 20000 → AllMarkable S rs → Outgrows room (meshed P S) i t rs
+pub no-room : (P : List Point) (i t : ℕ) {S : Skeleton} {rs : List ℕ} {room : Size} → StuckAll room S rs → Ready P i t S → Within room S → room .vertices ≤ 20000 → AllMarkable S rs → Outgrows room (meshed P S) i t rs
 unfolding Outgrows
 no-room P i t {S} {rs} {room} p y f small k =
     let w = stuck-all-over P i t (Needed (meshed P S) t rs) room small p y f k forced-closed (needed-split (meshed P S) t rs) (needed-mark (meshed P S) t rs) in

@@ -7,7 +7,7 @@ use native.Mathlib.Omega.{arith}
 use borrow.Author.Tests.{eqb-false, ne-eqb, not-true}
 use lib.Dec.{eqb}
 use lib.ListN.{length}
-use Rattle.tables.specs.declared.layout.Counts.{Counts}
+use Rattle.tables.specs.declared.layout.Size.{Size}
 use Rattle.tables.specs.Mesh.{Mesh}
 use Rattle.forest.specs.Element.{Name, Forest, Element, middle, shape}
 use Rattle.opening.proofs.laws.Counting.{count-below}
@@ -101,7 +101,7 @@ module _ {m : Mesh} {i t : ℕ} (g : Grown m i t) where
 -- ---- room
 
 -- of a mesh with the roots F, and a set Z of elements
-module _ {n : Mesh} {i t : ℕ} (g : Grown n i t) {F : Forest} (same : forestOf n t ≡ F) {Z : Element → Type 0} {room : Counts} where
+module _ {n : Mesh} {i t : ℕ} (g : Grown n i t) {F : Forest} (same : forestOf n t ≡ F) {Z : Element → Type 0} {room : Size} where
   -- within the room and all of Z split: Z needs no more than there is
   pub split-fits : ((e : Element) → Z e → SplitOf n t e) → Within room (skeleton n) → OutgrowsIn room F i Z → ⊥
   split-fits f k (more-rows es o h l) = omega (arith, k .rows, l, ap (λ (x : Forest). x .count) same, splits-few g o (λ e j. f e (h e j)))

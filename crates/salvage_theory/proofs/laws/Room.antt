@@ -3,7 +3,7 @@ use mathlib.Core.Path.{_∙_}
 use Prim.Native.Nat.{ℕ, _≤_, _<_}
 use native.Mathlib.Omega.{arith}
 use lib.ListN.{length}
-use Rattle.tables.specs.declared.layout.Counts.{Counts}
+use Rattle.tables.specs.declared.layout.Size.{Size}
 use Rattle.tables.specs.Mesh.{Mesh}
 use Rattle.sound.specs.Sound.{rows}
 use Rattle.sound.specs.Forest.{forestOf}
@@ -17,7 +17,7 @@ use Rattle.salvage_theory.specs.Rebuild.{Salvaged, initials, Rebuilt, Ke
 use Rattle.salvage_theory.proofs.laws.Opened.{opened-grown, opened-whole, opened-forest}
 use Rattle.salvage_theory.proofs.laws.Rebuilt.{kept-markable, kept-forced, built-closed, built-forest, rebuilt-built, rebuilt-forced}
 
-module _ {m : Mesh} {i t : ℕ} (n : Intact m i t) (never : KeptDeep m t → ⊥) (room : Counts) where
+module _ {m : Mesh} {i t : ℕ} (n : Intact m i t) (never : KeptDeep m t → ⊥) (room : Size) where
   -- a rebuild that comes to its end within the room needs no more than there is
   pub rebuilt-room : {T : Skeleton} → Rebuilt m i t (rows m) T → length (T .records) < 4294967295 → Within room T → OutgrowsIn room (forestOf m t) i (Salvaged m t) → ⊥
   rebuilt-room p few w =

@@ -5,9 +5,8 @@ use native.Mathlib.Omega.{arith}
 use lib.ListN.{length}
 use Rattle.tables.specs.declared.layout.Counts.{Counts}
 use Rattle.tables.specs.Layout.{pointWidth, recordWidth, rowWidth, roomOf}
-use Rattle.tables.specs.Mesh.{Lent, Mesh, meshOf, laid}
+use Rattle.tables.specs.Mesh.{Lent, Mesh, Counting, meshOf, laid}
 use Rattle.tables.proofs.laws.View as view
-use Rattle.tables.proofs.laws.View.{countsOf}
 use Rattle.sound.specs.Sound.{rows, Sound}
 use Rattle.sound.proofs.laws.Laid.{mesh-vertices, mesh-rows, laid-sound}
 use Rattle.run.specs.Skeleton.{Skeleton}
@@ -35,9 +34,9 @@ module _ {m : Mesh} {i t : ℕ} (n : Intact m i t) (never : KeptDeep m t → ⊥
   unfolding roomOf
   fits = record { points = omega (arith, size, f .vertices); records = omega (arith, f .vertices); rows = omega (arith, f .rows); together = size }
 
-  pub rebuilt-sound : lp % pointWidth ≡ 0 → lv % recordWidth ≡ 0 → lr % rowWidth ≡ 0 → Sound (laid (meshFrom m i T) lp lv lr) (countsOf (meshFrom m i T))
-  rebuilt-sound three two eight =
-      laid-sound (meshFrom m i T) lp lv lr fits (record { points-whole = three; records-whole = two; rows-whole = eight; vertices-fit = rw size (f .vertices); rows-fit = f .rows })
+  pub rebuilt-sound : {c : Counts} → Counting (meshFrom m i T) c → lp % pointWidth ≡ 0 → lv % recordWidth ≡ 0 → lr % rowWidth ≡ 0 → Sound (laid (meshFrom m i T) lp lv lr) c
+  rebuilt-sound k three two eight =
+      laid-sound (meshFrom m i T) lp lv lr fits k (record { points-whole = three; records-whole = two; rows-whole = eight; vertices-fit = rw size (f .vertices); rows-fit = f .rows })
       (omega (arith, built .grows .more-rows, opened-rows n, n .afresh .some)) i t (built .ready .grown) (built .ready .conforming)
 
 -- the leading vertices and roots of sound tables are intact

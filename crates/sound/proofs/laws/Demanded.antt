@@ -6,7 +6,7 @@ use native.Mathlib.Omega.{arith}
 use lib.ListN.{length}
 use lib.Ieee.{Float}
 use Rattle.tables.specs.declared.layout.Counts.{Counts}
-use Rattle.tables.specs.Layout.{pointAt, recordAt, rowAt}
+use Rattle.tables.specs.Layout.{pointAt, recordAt, rowAt, started}
 use Rattle.tables.specs.Mesh.{Lent, Mesh, laid}
 use Rattle.tables.proofs.laws.View.{mesh-row, mesh-record, mesh-point}
 use Rattle.intake.specs.Cells.{Cells, quads}
@@ -46,7 +46,7 @@ module _ (n : ℕ) {E : Cells} (d : Proper (shade E n) E) where
 
 -- the counts of what is opened
 abbrev pub size : List Float → List ℕ → Counts
-size F E = record { vertices = length F / 3; rows = length E / 4 }
+size F E = started (length F / 3) (length E / 4)
 
 module _ (F : List Float) (E : List ℕ) (lp lv lr : ℕ) (passed : judged F E lp lv lr ≡ verdict.Passed) where
   abbrev table : Lent

@@ -1,16 +1,15 @@
 -- Opened tables are sound.
-use mathlib.Core.Path.{_≡_, refl, sym, ap, subst, _∙_}
+use mathlib.Core.Path.{_≡_, refl, sym, ap, _∙_}
 use mathlib.Core.List.{List, map}
 use Prim.Native.Nat.{ℕ, _*_, _/_, _%_, _≤_, _<_}
 use native.Mathlib.Omega.{arith}
 use lib.ListN.{length, take}
 use lib.Ieee.{Float}
 use Rattle.split.specs.declared.row.Row.{Row}
-use Rattle.tables.specs.declared.layout.Counts.{Counts}
 use Rattle.tables.specs.declared.record.Record.{Record}
-use Rattle.tables.specs.Layout.{noPoint, noRecord, noRow, pointAt}
-use Rattle.tables.specs.Mesh.{meshOf, laid}
-use Rattle.tables.proofs.laws.View.{Within, countsOf, length-up-to, up-to-at, mesh-laid}
+use Rattle.tables.specs.Layout.{noPoint, noRecord, noRow, pointAt, started}
+use Rattle.tables.specs.Mesh.{Counting, meshOf, laid}
+use Rattle.tables.proofs.laws.View.{Within, length-up-to, up-to-at, mesh-laid}
 use Rattle.intake.specs.Cells.{Cells, quads}
 use Rattle.intake.specs.declared.answer.Verdict.the-variants.{Passed}
 use Rattle.opening.specs.Colours.{colours, largest}
@@ -155,19 +154,19 @@ module _ (F : List Float) (E : List ℕ) (lp lv lr : ℕ) (t : Allowed F E lp lv
       let r = roomy-passed (length F) (length E) lp lv lr (t .input) (t .room) in
       omega (arith, r .points-fit, r .records-fit, r .rows-fit, opened-points-length F (quads E), opened-vertices F (quads E), opened-rows F (quads E))
 
-  -- and the mesh that the tables hold is the opened one
-  pub opened-mesh : meshOf (laid (openedMesh F (quads E)) lp lv lr) (record { vertices = length F / 3; rows = length E / 4 }) ≡ openedMesh F (quads E)
-  opened-mesh = (λ j. meshOf (laid (openedMesh F (quads E)) lp lv lr) (record { vertices = sym (opened-points-length F (quads E)) j; rows = sym (opened-rows F (quads E)) j })) ∙ mesh-laid (openedMesh F (quads E)) lp lv lr within
+  counting : Counting (openedMesh F (quads E)) (started (length F / 3) (length E / 4))
+  counting = record { vertices = sym (opened-points-length F (quads E)); rows = sym (opened-rows F (quads E)) }
 
-  tested-sound : Sound (laid (openedMesh F (quads E)) lp lv lr) (countsOf (openedMesh F (quads E)))
+  -- and the mesh that the tables hold is the opened one
+  pub opened-mesh : meshOf (laid (openedMesh F (quads E)) lp lv lr) (started (length F / 3) (length E / 4)) ≡ openedMesh F (quads E)
+  opened-mesh = mesh-laid (openedMesh F (quads E)) lp lv lr within counting
+
+  tested-sound : Sound (laid (openedMesh F (quads E)) lp lv lr) (started (length F / 3) (length E / 4))
   tested-sound =
-      laid-sound (openedMesh F (quads E)) lp lv lr within
+      laid-sound (openedMesh F (quads E)) lp lv lr within counting
       (rw (opened-points-length F (quads E), opened-rows F (quads E)) room)
       (omega (arith, opened-rows F (quads E), some-element))
       (length F / 3) (length E / 4) (opened-grown F (quads E) (opened-afresh F (quads E) (lengths .thirds) some-element (t .tests))) (opened-conforming F (quads E))
 
-pub opened-sound : (F : List Float) (E : List ℕ) (lp lv lr : ℕ) → judged F E lp lv lr ≡ Passed → Sound (laid (openedMesh F (quads E)) lp lv lr) (record { vertices = length F / 3; rows = length E / 4 })
-opened-sound F E lp lv lr h = subst (Sound (laid (openedMesh F (quads E)) lp lv lr)) counted (tested-sound F E lp lv lr (allowed F E lp lv lr h))
-  where
-    counted : _≡_ {A = Counts} (countsOf (openedMesh F (quads E))) (record { vertices = length F / 3; rows = length E / 4 })
-    counted = λ i. record { vertices = opened-points-length F (quads E) i; rows = opened-rows F (quads E) i }
+pub opened-sound : (F : List Float) (E : List ℕ) (lp lv lr : ℕ) → judged F E lp lv lr ≡ Passed → Sound (laid (openedMesh F (quads E)) lp lv lr) (started (length F / 3) (length E / 4))
+opened-sound F E lp lv lr h = tested-sound F E lp lv lr (allowed F E lp lv lr h)

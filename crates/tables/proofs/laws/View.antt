@@ -10,7 +10,7 @@ use lib.Seq.{take-add, take-at, drop-at, getD-at, length-take-le}
 use Rattle.split.proofs.laws.Places.{Against, less, equal, more, against}
 use Rattle.tables.specs.declared.layout.Counts.{Counts}
 use Rattle.tables.specs.Layout.{pointWidth, recordWidth, rowWidth, recordCells, pointAt, recordAt, rowAt, noFloat, noPoint, noRecord, noRow}
-use Rattle.tables.specs.Mesh.{Lent, Mesh, Unused, upTo, flat, padded, meshOf, laid}
+use Rattle.tables.specs.Mesh.{Lent, Mesh, Counting, Unused, upTo, flat, padded, meshOf, laid}
 use Rattle.tables.proofs.laws.Width.{has}
 use Rattle.tables.proofs.laws.Parts.{cut}
 use Rattle.tables.proofs.laws.Table.{Table, cells-at, cells-apart}
@@ -136,29 +136,26 @@ pub record Within (m : Mesh) (lp lv lr : ℕ) : Type 0 where
   pub rows : rowWidth * length (m .rows) ≤ lr
   pub together : length (m .points) ≡ length (m .records)
 
-abbrev pub countsOf : Mesh → Counts
-countsOf m = record { vertices = length (m .points); rows = length (m .rows) }
-
-module _ (m : Mesh) (lp lv lr : ℕ) (f : Within m lp lv lr) where
-  pub mesh-laid : meshOf (laid m lp lv lr) (countsOf m) ≡ m
+module _ (m : Mesh) (lp lv lr : ℕ) (f : Within m lp lv lr) {c : Counts} (k : Counting m c) where
+  pub mesh-laid : meshOf (laid m lp lv lr) c ≡ m
   unfolding laid meshOf
   mesh-laid =
-      λ i. record {
+      rw (k .vertices, k .rows) (λ i. record {
         points = up-to-padded points noFloat (m .points) lp (f .points) i;
         records = back i;
         rows = up-to-padded rows 0 (m .rows) lr (f .rows) i;
-      }
+      })
     where
       back : upTo (recordAt (padded lv 0 (flat recordCells (m .records)))) (length (m .points)) ≡ m .records
       back = rw (f .together) (up-to-padded records 0 (m .records) lv (f .records))
 
-  pub laid-unused : Unused (laid m lp lv lr) (countsOf m)
+  pub laid-unused : Unused (laid m lp lv lr) c
   unfolding laid
   laid-unused = record {
-    points-fit = rw (length-padded points noFloat (m .points) lp (f .points)) (f .points);
-    records-fit = rw (f .together, length-padded records 0 (m .records) lv (f .records)) (f .records);
-    rows-fit = rw (length-padded rows 0 (m .rows) lr (f .rows)) (f .rows);
-    points = drop-padded points noFloat (m .points) lp (f .points);
-    records = rw (f .together) (drop-padded records 0 (m .records) lv (f .records));
-    rows = drop-padded rows 0 (m .rows) lr (f .rows);
+    points-fit = rw (k .vertices, length-padded points noFloat (m .points) lp (f .points)) (f .points);
+    records-fit = rw (k .vertices, f .together, length-padded records 0 (m .records) lv (f .records)) (f .records);
+    rows-fit = rw (k .rows, length-padded rows 0 (m .rows) lr (f .rows)) (f .rows);
+    points = rw (k .vertices) (drop-padded points noFloat (m .points) lp (f .points));
+    records = rw (k .vertices, f .together) (drop-padded records 0 (m .records) lv (f .records));
+    rows = rw (k .rows) (drop-padded rows 0 (m .rows) lr (f .rows));
   }

@@ -7,6 +7,7 @@ use lib.Ieee.{Float}
 use lib.ListN.{length, take}
 use lib.Seq.{sets, length-take-le}
 use Rattle.tables.specs.declared.layout.Counts.{Counts}
+use Rattle.tables.specs.Layout.{started}
 use Rattle.tables.specs.Mesh.{Lent, laid}
 use Rattle.tables.specs.Report.{refusal}
 use Rattle.intake.specs.declared.answer.Verdict.{Verdict}
@@ -48,7 +49,7 @@ module _ {F : List Float} {E : List ℕ} {t : Lent} (ep : length (t .points) ≡
   module _ {c : Counts} (q : a ≡ opened.Done c) where
     record Passed : Type 0 where
       passed : v ≡ verdict.Passed
-      counts : c ≡ record { vertices = length F / 3; rows = length E / 4 }
+      counts : c ≡ started (length F / 3) (length E / 4)
       after : t' ≡ laid (openedMesh F (quads E)) 1536 1024 6144
 
     does-pass : Passed
@@ -58,7 +59,7 @@ module _ {F : List Float} {E : List ℕ} {t : Lent} (ep : length (t .points) ≡
         go (verdict.Refused n p) e = let y : a ≡ opened.Refused n p = rw e at is-answer in absurd (refused-not (sym y ∙ q))
         go verdict.Passed e = record {
           passed = e;
-          counts = let y : a ≡ opened.Done (record { vertices = length F / 3; rows = length E / 4 }) = rw e at is-answer in done-counts (sym q ∙ y);
+          counts = let y : a ≡ opened.Done (started (length F / 3) (length E / 4)) = rw e at is-answer in done-counts (sym q ∙ y);
           after = let y : t' ≡ laid (openedMesh F (quads E)) (length (t .points)) (length (t .records)) (length (t .rows)) = rw e at is-tables in rw (ep, er, ew) at y;
         }
 

@@ -9,7 +9,7 @@ use lib.Ieee.{Float}
 use lib.ListN.{length, getD, replicate, length-append, length-replicate, length-map, List·getD-append}
 use Rattle.split.specs.declared.row.Row.{Row}
 use Rattle.tables.specs.declared.layout.Counts.{Counts}
-use Rattle.tables.specs.Layout.{roomOf}
+use Rattle.tables.specs.Layout.{roomOf, sized}
 use Rattle.tables.specs.Mesh.{Lent, meshOf, padded}
 use Rattle.tables.specs.Report.{done, refusal}
 use Rattle.opening.proofs.laws.Counting.{count-below}
@@ -50,12 +50,12 @@ pub ruleset headlines = (head-line, refusal-none, refusal-line)
 
 -- ---- how much there is of a mesh in tables of 512 vertices and 768 rows
 
-room-is : roomOf 1536 1024 6144 ≡ record { vertices = 512; rows = 768 }
+room-is : roomOf 1536 1024 6144 ≡ sized 512 768
 unfolding roomOf
 room-is = refl
 
 module _ {t : Lent} {c : Counts} (h : Held t c) where
-  held-room : roomOf (length (t .points)) (length (t .records)) (length (t .rows)) ≡ record { vertices = 512; rows = 768 }
+  held-room : roomOf (length (t .points)) (length (t .records)) (length (t .rows)) ≡ sized 512 768
   held-room = rw (h .points, h .records, h .rows) room-is
 
   vertices-few : c .vertices ≤ 512

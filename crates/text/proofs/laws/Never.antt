@@ -8,6 +8,7 @@ use borrow.Author.Tests.{eqb-true}
 use lib.Dec.{eqb}
 use lib.ListN.{length, getD}
 use Rattle.tables.specs.declared.layout.Counts.{Counts}
+use Rattle.tables.specs.Layout.{started}
 use Rattle.tables.specs.Mesh.{Lent, meshOf}
 use Rattle.tables.specs.Report.{Report, refusal, done}
 use Rattle.intake.specs.declared.answer.Found.the-variants.{Nowhere}
@@ -71,8 +72,8 @@ headline-begins : (r : Report) → Begins (r .number) (headline r)
 unfolding headline
 headline-begins r = go (eqb (r .number) 0) refl
   where
-    go : (t : Bool) → eqb (r .number) 0 ≡ t → Begins (r .number) (cond t (cLine 0 (r .vertices) (r .rows) (r .splits)) (cLine (r .number) (r .place) 0 0))
-    go true e = rw (eqb-true (r .number) 0 e) (begins-c 0 (r .vertices) (r .rows) (r .splits))
+    go : (t : Bool) → eqb (r .number) 0 ≡ t → Begins (r .number) (cond t (cLine 0 (r .counts .vertices) (r .counts .rows) (r .splits)) (cLine (r .number) (r .place) 0 0))
+    go true e = rw (eqb-true (r .number) 0 e) (begins-c 0 (r .counts .vertices) (r .counts .rows) (r .splits))
     go false e = begins-c (r .number) (r .place) 0 0
 
 -- ---- which numbers come
@@ -156,7 +157,7 @@ opens-unsplit i {c} = go (judged (i .coordinates) (i .elements) 1536 1024 6144) 
     go : (v : Verdict) → judged (i .coordinates) (i .elements) 1536 1024 6144 ≡ v → answer v (length (i .coordinates) / 3) (length (i .elements) / 4) ≡ opened.Done c → Unsplit (openedTables i) c
     go (verdict.Refused m q) f e = let z : _≡_ {A = ℕ} 0 1 = cc in absurd (omega arith)
     go verdict.Passed f e =
-        let s : record { vertices = length (i .coordinates) / 3; rows = length (i .elements) / 4 } ≡ c = cc in
+        let s : started (length (i .coordinates) / 3) (length (i .elements) / 4) ≡ c = cc in
         subst (λ (d : Counts). Unsplit (openedTables i) d) s (laid-unsplit (i .coordinates) (i .elements) 1536 1024 6144 f)
 
 pub opens-rows : (i : Input) {c : Counts} → opens i ≡ opened.Done c → c .rows ≡ length (i .elements) / 4
@@ -166,7 +167,7 @@ opens-rows i {c} = go (judged (i .coordinates) (i .elements) 1536 1024 6144)
     go : (v : Verdict) → answer v (length (i .coordinates) / 3) (length (i .elements) / 4) ≡ opened.Done c → c .rows ≡ length (i .elements) / 4
     go (verdict.Refused m q) e = let z : _≡_ {A = ℕ} 0 1 = cc in absurd (omega arith)
     go verdict.Passed e =
-        let s : record { vertices = length (i .coordinates) / 3; rows = length (i .elements) / 4 } ≡ c = cc in
+        let s : started (length (i .coordinates) / 3) (length (i .elements) / 4) ≡ c = cc in
         sym (ap (λ (d : Counts). d .rows) s)
 
 -- ---- refining opened tables: 0, 10 and 2

@@ -21,14 +21,17 @@ cast-split-patch c = search needs
 split-patch-requires : tie.Need-split-patch-requires
 split-patch-requires c κs = search (cutting, needs)
 
-add-t21 : tie.Need-add-t21
-add-t21 c = search needs
+add-resized : tie.Need-add-resized
+add-resized c = search needs
 
-mul-t22 : tie.Need-mul-t22
-mul-t22 c = search needs
+mul-resized : tie.Need-mul-resized
+mul-resized c = search needs
 
-add-t23 : tie.Need-add-t23
-add-t23 c = search needs
+add-resized-2 : tie.Need-add-resized-2
+add-resized-2 c = search needs
+
+resized-requires : tie.Need-resized-requires
+resized-requires c κs = search needs
 
 same-length : tie.Need-same-length
 same-length c = search needs
@@ -52,9 +55,10 @@ cut-patch-spec =
     record-edge-requires
     cast-split-patch
     split-patch-requires
-    add-t21
-    mul-t22
-    add-t23
+    add-resized
+    mul-resized
+    add-resized-2
+    resized-requires
     same-length
     same-length-2
     same-length-3
