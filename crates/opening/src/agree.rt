@@ -5,12 +5,12 @@ use crate::judge::judge;
 use crate::order::root_row;
 use crate::store::initial_record;
 use intake::answer::Verdict;
-use split::row::Row;
+use split::row::same_row;
 use tables::record::Record;
 ghost use mathlib.Core.Path.{_≡_};
 ghost use Prim.Native.Nat.{_*_, _/_, _≤_};
 ghost use lib.ListN.{length};
-ghost use Rattle.opening.specs.Agree.{sameRecord, sameRoot, recordsAgree, rowsAgree, agreed};
+ghost use Rattle.opening.specs.Agree.{sameRecord, recordsAgree, rowsAgree, agreed};
 ghost use Rattle.opening.specs.Scratch.{Plain, colourIn, paintLength};
 
 fn same_record(a: Record, b: Record) -> bool
@@ -20,31 +20,6 @@ fn same_record(a: Record, b: Record) -> bool
         return a.second == b.second;
     }
     false
-}
-
-// Two rows but for the first child.
-fn same_root(a: Row, b: Row) -> bool
-    ensures { λ r. ⌜ r ≡ sameRoot a b ⌝ }
-{
-    if a.v0 != b.v0 {
-        return false;
-    }
-    if a.v1 != b.v1 {
-        return false;
-    }
-    if a.v2 != b.v2 {
-        return false;
-    }
-    if a.v3 != b.v3 {
-        return false;
-    }
-    if a.tag != b.tag {
-        return false;
-    }
-    if a.parent != b.parent {
-        return false;
-    }
-    a.depth == b.depth
 }
 
 fn records_agree(paint: &[u32], vertices: usize, records: &[u32]) -> bool
@@ -72,7 +47,7 @@ fn rows_agree(elements: &[u32], paint: &[u32], vertices: usize, n: u32, rows: &[
     let mut k = 0usize;
     while k < count {
         let held = tables::row::read(rows, k);
-        if !same_root(held, root_row(elements, paint, vertices, n, k)) {
+        if !same_row(held, root_row(elements, paint, vertices, n, k)) {
             return false;
         }
         k += 1;

@@ -1,5 +1,6 @@
 // The order of a root's vertices: sorted by colour, the last in front exactly if its colour is N (Definition 2).
 use split::row::Row;
+use split::row::root;
 ghost use mathlib.Core.Path.{_≡_};
 ghost use Prim.Native.Nat.{_*_, _<_, _+_};
 ghost use lib.ListN.{length};
@@ -95,14 +96,5 @@ pub fn root_row(elements: &[u32], paint: &[u32], vertices: usize, n: u32, k: usi
         d: elements[i + 3],
     };
     let f = arrange(paint, n, sort(paint, w));
-    Row {
-        v0: f.a,
-        v1: f.b,
-        v2: f.c,
-        v3: f.d,
-        tag: 3,
-        parent: k as u32,
-        child: 0,
-        depth: 0,
-    }
+    root(3, k as u32, f.a, f.b, f.c, f.d)
 }

@@ -8,11 +8,12 @@ use native.Mathlib.Omega.{arith}
 use borrow.Author.Tests.{ltb-true, ltb-false, lt-ltb, le-ltb, eq-eqb, ne-eqb}
 use lib.Dec.{ltb}
 use lib.ListN.{length, getD}
-use Rattle.split.specs.Split.{three, Corners, corners}
+use Rattle.split.specs.Split.{three, number, Corners, corners}
+use Rattle.split.specs.Row.{root}
 use Rattle.forest.specs.Start.{arranged, moved}
 use Rattle.opening.specs.declared.order.Two.{Two}
 use Rattle.opening.specs.declared.order.Four.{Four}
-use Rattle.opening.specs.Order.{lower, upper, sorted, given, root, rootOf}
+use Rattle.opening.specs.Order.{lower, upper, sorted, given, rootOf}
 use Rattle.opening.specs.Scratch.{Plain}
 use Rattle.opening.specs.Sorting.{four, inOrder, Low}
 
@@ -87,6 +88,6 @@ module _ (E : List ℕ) (k : ℕ) where
     d = omega (arith, p .there (4 * k + 3) (omega arith));
   }
 
-  pub root-is : (N : ℕ) (f : ℕ → ℕ) (s r : Four) → four s ≡ sorted f (four readFour) → four r ≡ arranged three N f (four s) → root k (four r) ≡ rootOf N f E k
+  pub root-is : (N : ℕ) (f : ℕ → ℕ) (s r : Four) → four s ≡ sorted f (four readFour) → four r ≡ arranged three N f (four s) → root (number three) k (four r) ≡ rootOf N f E k
   unfolding rootOf
-  root-is N f s r e g = ap (root k) (g ∙ rw (e, read-given))
+  root-is N f s r e g = ap (root (number three) k) (g ∙ rw (e, read-given))

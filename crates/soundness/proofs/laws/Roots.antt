@@ -10,6 +10,8 @@ use lib.ListN.{length, take, set, length-set}
 use lib.Seq.{length-take-le, take-suc-set}
 use lib.Ieee.{Float}
 use Rattle.split.specs.declared.row.Row.{Row}
+use Rattle.split.specs.Row.{sameRow}
+use Rattle.split.proofs.laws.Same.{leaf-childless, row-same, same-row}
 use Rattle.tables.specs.declared.layout.Counts.{Counts}
 use Rattle.tables.specs.Layout.{pointAt, recordAt, rowAt}
 use Rattle.tables.specs.Mesh.{Mesh, meshOf, upTo, flat}
@@ -20,7 +22,7 @@ use Rattle.opening.specs.Colours.{colours, largest}
 use Rattle.opening.specs.Order.{rootOf}
 use Rattle.opening.specs.Opening.{judged, initial, openedMesh}
 use Rattle.opening.specs.Agree.{paint, agreed}
-use Rattle.opening.proofs.laws.Agree.{ButChild, root-same, same-root, agreed-means, means-agreed}
+use Rattle.opening.proofs.laws.Agree.{agreed-means, means-agreed}
 use Rattle.sound.specs.Sound.{childless, vertexCells, givenPoints, givenElements, Afresh, Fitting}
 use Rattle.sound.specs.Check.{Decides, lent}
 use Rattle.sound.proofs.laws.Flat.{up-to-same, up-to-front, up-to-map, up-to-each}
@@ -92,25 +94,17 @@ module _ {W : List ℕ} {t : ℕ} {before : List ℕ} where
 
 -- ---- the comparison
 
--- a root has no child: it is a row but for its child exactly if the two are the same in the rest
-but-child : (a b : Row) → b .child ≡ 0 → ButChild a b → b ≡ childless a
-but-child a b leaf s = λ i. record {
-  v0 = sym (s .same-v0) i;
-  v1 = sym (s .same-v1) i;
-  v2 = sym (s .same-v2) i;
-  v3 = sym (s .same-v3) i;
-  tag = sym (s .same-tag) i;
-  parent = sym (s .same-parent) i;
-  child = leaf i;
-  depth = sym (s .same-depth) i;
-}
-
-child-but : (a b : Row) → b ≡ childless a → ButChild a b
-child-but a b e = rw e (record { same-v0 = refl; same-v1 = refl; same-v2 = refl; same-v3 = refl; same-tag = refl; same-parent = refl; same-depth = refl })
-
 root-leaf : (N : ℕ) (f : ℕ → ℕ) (E : List ℕ) (k : ℕ) → rootOf N f E k .child ≡ 0
 unfolding rootOf
 root-leaf N f E k = refl
+
+-- a root has no child: it is a row but for its child exactly if the two are the same in the rest
+module _ (a b : Row) (leaf : b .child ≡ 0) where
+  root-row : sameRow a b ≡ true → b ≡ childless a
+  root-row s = sym (row-same a b s ∙ leaf-childless b leaf)
+
+  row-root : b ≡ childless a → sameRow a b ≡ true
+  row-root e = same-row a b (sym (leaf-childless b leaf ∙ e))
 
 module _ (F : List Float) (E R W : List ℕ) where
   -- opening F and E is accepted, and gives the colours and, but for the first child, the rows that stand in front of the tables
@@ -131,7 +125,7 @@ module _ (F : List Float) (E R W : List ℕ) where
         opens = a;
         colours = up-to-same (recordAt R) (length F / 3) (recordAt R 0) (λ v. initial (paint F E v)) (λ v h. sym (b v h));
         rows =
-            up-to-same (λ k. childless (rowAt W k)) (length E / 4) (rowAt W 0) made (λ k h. but-child (rowAt W k) (made k) (root-leaf _ _ E k) (root-same _ _ (d k h)))
+            up-to-same (λ k. childless (rowAt W k)) (length E / 4) (rowAt W 0) made (λ k h. root-row (rowAt W k) (made k) (root-leaf _ _ E k) (d k h))
             ∙ sym (up-to-map (rowAt W) childless (length E / 4));
       }
 
@@ -140,7 +134,7 @@ module _ (F : List Float) (E R W : List ℕ) where
   alike-agreed s =
       means-agreed F E R W (s .opens)
       (λ v h. sym (up-to-each (recordAt R) (λ v. initial (paint F E v)) (length F / 3) (s .colours) v h))
-      (λ k h. same-root _ _ (child-but (rowAt W k) (made k) (up-to-each (λ k. childless (rowAt W k)) made (length E / 4) (s .rows ∙ up-to-map (rowAt W) childless (length E / 4)) k h)))
+      (λ k h. row-root (rowAt W k) (made k) (root-leaf _ _ E k) (up-to-each (λ k. childless (rowAt W k)) made (length E / 4) (s .rows ∙ up-to-map (rowAt W) childless (length E / 4)) k h))
 
   decides-alike : Decides Alike (agreed F E R W)
   decides-alike = record { yes = agreed-alike; no = λ e s. true≢false (sym (alike-agreed s) ∙ e) }

@@ -1,4 +1,5 @@
 -- `order::root_row`: a plain element has vertices that have colours. Assumes nothing.
+use mathlib.Core.Path.{_∙_}
 use borrow.Author.Needs.{needs}
 use Rattle.opening.proofs.laws.Sorting.{read-low, root-is}
 use Rattle.opening.proofs.order.root_row.Statement.{statement}
@@ -7,11 +8,11 @@ use Rattle.opening.proofs.order.root_row.Tie as tie
 mul-i : tie.Need-mul-i
 mul-i c = search needs
 
-mul-t9 : tie.Need-mul-t9
-mul-t9 c = search needs
+mul-root : tie.Need-mul-root
+mul-root c = search needs
 
-shared-slice-read-t11 : tie.Need-shared-slice-read-t11
-shared-slice-read-t11 c = search needs
+shared-slice-read-root : tie.Need-shared-slice-read-root
+shared-slice-read-root c = search needs
 
 add-t12 : tie.Need-add-t12
 add-t12 c = search needs
@@ -46,19 +47,22 @@ sort-requires c κs = (search needs, read-low _ _ (c .before .before .before .be
 arrange-requires : tie.Need-arrange-requires
 arrange-requires c κs = search needs
 
-cast-t11 : tie.Need-cast-t11
-cast-t11 c = search needs
+cast-root : tie.Need-cast-root
+cast-root c = search needs
+
+root-requires : tie.Need-root-requires
+root-requires c κs = search needs
 
 returns : tie.Need-returns
-returns c = root-is _ _ _ _ _ _ (c .before .sort .ensures .0) (c .arrange .ensures)
+returns c = c .root .ensures ∙ root-is _ _ _ _ _ _ (c .before .before .sort .ensures .0) (c .before .arrange .ensures)
 
 pub root-row-spec : {M : Type 1} → statement M
 root-row-spec =
     tie.close
     (tie.spec
     mul-i
-    mul-t9
-    shared-slice-read-t11
+    mul-root
+    shared-slice-read-root
     add-t12
     mul-t13
     shared-slice-read-t15
@@ -70,5 +74,6 @@ root-row-spec =
     shared-slice-read-t23
     sort-requires
     arrange-requires
-    cast-t11
+    cast-root
+    root-requires
     returns)
