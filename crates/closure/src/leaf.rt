@@ -2,27 +2,12 @@
 use crate::index::index_row;
 use chain::wide;
 use split::row::Row;
+use split::row::with_child;
 ghost use mathlib.Core.Path.{_≡_};
 ghost use Prim.Native.Nat.{_+_, _<_};
 ghost use Rattle.tables.specs.Layout.{rowAt, putRow};
-ghost use Rattle.split.specs.Row.{firstOf, secondOf};
-ghost use Rattle.run.specs.Run.{withChild};
+ghost use Rattle.split.specs.Row.{withChild, firstOf, secondOf};
 ghost use Rattle.closure.specs.State.{rowPushed, Splittable, Halves};
-
-fn with_child(r: Row, child: u32) -> Row
-    ensures { λ p. ⌜ p ≡ withChild r child ⌝ }
-{
-    Row {
-        v0: r.v0,
-        v1: r.v1,
-        v2: r.v2,
-        v3: r.v3,
-        tag: r.tag,
-        parent: r.parent,
-        child,
-        depth: r.depth,
-    }
-}
 
 fn append(rows: &mut [u32], scratch: &mut [u32], n: usize, r: Row)
     requires { ⌜ n < 100000 ⌝ }

@@ -5,6 +5,8 @@ use mathlib.Core.List.{List, [], _∷_, _++_}
 use Prim.Native.Nat.{ℕ, zero, suc, _<_}
 use lib.Dec.{ltb}
 use Rattle.split.specs.declared.row.Row.{Row}
+use Rattle.split.specs.Split.{Corners, corners}
+use Rattle.split.specs.Row.{cornersOf, remade}
 use Rattle.tables.specs.declared.record.Record.{Record}
 use Rattle.tables.specs.Mesh.{Mesh, upTo}
 use Rattle.intake.specs.Search.{count}
@@ -34,9 +36,12 @@ unfoldable pub sift : {A : Type 0} → (ℕ → Bool) → (ℕ → A) → ℕ �
 sift test f zero = []
 sift test f (suc n) = sift test f n ++ cond (test n) (f n ∷ []) []
 
+abbrev pub mapped : (ℕ → ℕ) → Corners ℕ → Corners ℕ
+mapped f c = corners (f (c .v0)) (f (c .v1)) (f (c .v2)) (f (c .v3))
+
 -- a row with its vertices renamed, and with another parent and first child
 abbrev pub renamed : (ℕ → ℕ) → ℕ → ℕ → Row → Row
-renamed f parent child r = record { v0 = f (r .v0); v1 = f (r .v1); v2 = f (r .v2); v3 = f (r .v3); tag = r .tag; parent = parent; child = child; depth = r .depth }
+renamed f parent child r = remade r (mapped f (cornersOf r)) parent child
 
 -- the first child of row r in the new numbers, 0 for a row that is a leaf now
 unfoldable pub newChild : Mesh → (ℕ → Bool) → ℕ → ℕ

@@ -3,6 +3,7 @@ use mathlib.Core.List.{List, [], _∷_, _++_}
 use Prim.Native.Nat.{ℕ}
 use Rattle.split.specs.declared.row.Row.{Row}
 use Rattle.tables.specs.declared.record.Record.{Record}
+use Rattle.tables.specs.Layout.{rowFrom}
 use Rattle.tables.specs.Mesh.{Mesh}
 use Rattle.coarsen_theory.specs.Dropping.{none, goneBy, passedOver}
 use Rattle.coarsen_theory.specs.Thinned.{thinned, vertexMap, rowMap}
@@ -29,7 +30,7 @@ coloured c = of c 4294967295
 
 -- v0 v1 v2 v3, tag, parent, first child, depth
 abbrev row : ℕ → ℕ → ℕ → ℕ → ℕ → ℕ → ℕ → ℕ → Row
-row a b c d g p k n = record { v0 = a; v1 = b; v2 = c; v3 = d; tag = g; parent = p; child = k; depth = n }
+row a b c d g p k n = rowFrom (a ∷ b ∷ c ∷ d ∷ g ∷ p ∷ k ∷ n ∷ []) 0
 
 abbrev mesh : List Record → List Row → Mesh
 mesh records rows = record { points = []; records = records; rows = rows }

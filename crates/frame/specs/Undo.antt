@@ -4,15 +4,13 @@ use mathlib.Core.List.{List}
 use Prim.Native.Nat.{ℕ}
 use lib.Dec.{leb}
 use Rattle.split.specs.declared.row.Row.{Row}
+use Rattle.split.specs.Row.{childless}
 use Rattle.tables.specs.Layout.{noRow, noRecord, rowAt, putRow, putRecord}
 use Rattle.frame.specs.Steps.{over}
 
-abbrev pub leafOf : Row → Row
-leafOf r = record { v0 = r .v0; v1 = r .v1; v2 = r .v2; v3 = r .v3; tag = r .tag; parent = r .parent; child = 0; depth = r .depth }
-
 -- the row as it was among the first n: a first child not below n was set since
 unfoldable pub restored : ℕ → Row → Row
-restored n r = cond (leb n (r .child)) (leafOf r) r
+restored n r = cond (leb n (r .child)) (childless r) r
 
 abbrev pub withRestored : ℕ → List ℕ → ℕ → List ℕ
 withRestored n w k = putRow w k (restored n (rowAt w k))

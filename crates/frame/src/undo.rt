@@ -1,11 +1,13 @@
 // A refused call leaves every lent number as at entry (document 01, "What comes back"). That needs no copy: rows are only appended, and a first child is only set from 0.
 use chain::wide;
 use split::row::Row;
+use split::row::with_child;
 use tables::layout::Counts;
 use tables::layout::RECORD;
 use tables::layout::ROW;
 use tables::layout::least;
 use tables::record::Record;
+use tables::row::unused;
 ghost use mathlib.Core.Path.{_≡_};
 ghost use Rattle.tables.specs.Layout.{noRow, noRecord, rowAt, putRow, putRecord};
 ghost use Rattle.frame.specs.Undo as undo;
@@ -17,16 +19,7 @@ fn restored(r: Row, n: usize) -> Row
     if wide(r.child) < n {
         return r;
     }
-    Row {
-        v0: r.v0,
-        v1: r.v1,
-        v2: r.v2,
-        v3: r.v3,
-        tag: r.tag,
-        parent: r.parent,
-        child: 0,
-        depth: r.depth,
-    }
+    with_child(r, 0)
 }
 
 fn release_row(rows: &mut [u32], k: usize, n: usize)
@@ -51,17 +44,7 @@ fn release(rows: &mut [u32], n: usize)
 fn clear_row(rows: &mut [u32], k: usize)
     ensures { λ _. ⌜ now (rows .exit) ≡ putRow (now (rows .entry)) k noRow ⌝ }
 {
-    let none = Row {
-        v0: 0,
-        v1: 0,
-        v2: 0,
-        v3: 0,
-        tag: 0,
-        parent: 0,
-        child: 0,
-        depth: 0,
-    };
-    tables::row::write(rows, k, none);
+    tables::row::write(rows, k, unused());
 }
 
 fn clear_rows(rows: &mut [u32], from: usize, to: usize)

@@ -5,7 +5,7 @@ use Prim.Native.Nat.{ℕ, zero, suc, _+_, _*_, _/_}
 use lib.Dec.{eqb, leb}
 use lib.ListN.{length, getD}
 use lib.Ieee.{Float}
-use Rattle.split.specs.declared.row.Row.{Row}
+use Rattle.split.specs.Row.{sameRow}
 use Rattle.tables.specs.declared.record.Record.{Record}
 use Rattle.tables.specs.Layout.{recordAt, rowAt}
 use Rattle.intake.specs.declared.answer.Verdict.{Verdict}
@@ -29,17 +29,11 @@ every test (suc n) = every test n && test n
 unfoldable pub sameRecord : Record → Record → Bool
 sameRecord a b = eqb (a .first) (b .first) && eqb (a .second) (b .second)
 
--- two rows but for the first child
-unfoldable pub sameRoot : Row → Row → Bool
-sameRoot a b =
-    eqb (a .v0) (b .v0)
-    && (eqb (a .v1) (b .v1) && (eqb (a .v2) (b .v2) && (eqb (a .v3) (b .v3) && (eqb (a .tag) (b .tag) && (eqb (a .parent) (b .parent) && eqb (a .depth) (b .depth))))))
-
 unfoldable pub recordsAgree : (ℕ → ℕ) → List ℕ → ℕ → Bool
 recordsAgree colour records n = every (λ v. sameRecord (recordAt records v) (initial (colour v))) n
 
 unfoldable pub rowsAgree : ℕ → (ℕ → ℕ) → Cells → List ℕ → ℕ → Bool
-rowsAgree N colour E rows n = every (λ k. sameRoot (rowAt rows k) (rootOf N colour E k)) n
+rowsAgree N colour E rows n = every (λ k. sameRow (rowAt rows k) (rootOf N colour E k)) n
 
 -- the colour of each vertex by Algorithm 2
 abbrev pub paint : List Float → Cells → ℕ → ℕ

@@ -5,14 +5,14 @@ use Prim.Native.Nat.{ℕ, _/_, _≤_, _<_}
 use lib.ListN.{length}
 use lib.Ieee.{Float}
 use Rattle.split.specs.declared.row.Row.{Row}
-use Rattle.split.specs.Split.{three, Holds}
-use Rattle.split.specs.Row.{cornersOf}
+use Rattle.split.specs.Split.{three, number, Holds}
+use Rattle.split.specs.Row.{cornersOf, root}
 use Rattle.tables.specs.declared.layout.Counts.{Counts}
 use Rattle.tables.specs.Layout.{pointAt, recordAt, rowAt}
 use Rattle.tables.specs.Mesh.{Lent, Unused}
 use Rattle.forest.specs.Start.{Started}
 use Rattle.intake.specs.Cells.{Cells, quads}
-use Rattle.opening.specs.Order.{given, root}
+use Rattle.opening.specs.Order.{given}
 use Rattle.opening.specs.Opening.{initial}
 use Rattle.opening.specs.Greedy.{Greedy}
 
@@ -28,7 +28,7 @@ pub record AsRoot (E : Cells) (N : ℕ) (colour : ℕ → ℕ) (k : ℕ) (r : Ro
   pub of : (v : ℕ) → Holds 3 (cornersOf r) v → Holds 3 (given E k) v
   pub has : (v : ℕ) → Holds 3 (given E k) v → Holds 3 (cornersOf r) v
   pub order : Started three N colour (cornersOf r)
-  pub beside : r ≡ root k (cornersOf r)
+  pub beside : r ≡ root (number three) k (cornersOf r)
 
 -- the tables t with the counts c are what opening the coordinates F and the elements E is to give (demand 2)
 pub record OpenedAsDemanded (F : List Float) (E : List ℕ) (c : Counts) (t : Lent) : Type 0 where

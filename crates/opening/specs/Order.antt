@@ -3,7 +3,8 @@ use mathlib.Core.Bool.{cond}
 use Prim.Native.Nat.{ℕ}
 use lib.Dec.{ltb}
 use Rattle.split.specs.declared.row.Row.{Row}
-use Rattle.split.specs.Split.{three, Corners, corners}
+use Rattle.split.specs.Split.{three, number, Corners, corners}
+use Rattle.split.specs.Row.{root}
 use Rattle.forest.specs.Start.{arranged}
 use Rattle.intake.specs.Cells.{Cells}
 use Rattle.intake.specs.Causes.{vertex}
@@ -28,10 +29,6 @@ sorted f w = inner f (outer f (lower f (w .v0) (w .v1)) (upper f (w .v0) (w .v1)
 abbrev pub given : Cells → ℕ → Corners ℕ
 given E k = corners (vertex E k 0) (vertex E k 1) (vertex E k 2) (vertex E k 3)
 
--- a root: tag 3, its own row as parent, a leaf of depth 0
-abbrev pub root : ℕ → Corners ℕ → Row
-root k c = record { v0 = c .v0; v1 = c .v1; v2 = c .v2; v3 = c .v3; tag = 3; parent = k; child = 0; depth = 0 }
-
--- element k becomes row k: its vertices sorted by colour, the last in front exactly if its colour is N
+-- element k becomes row k, of tag 3: its vertices sorted by colour, the last in front exactly if its colour is N
 unfoldable pub rootOf : ℕ → (ℕ → ℕ) → Cells → ℕ → Row
-rootOf N colour E k = root k (arranged three N colour (sorted colour (given E k)))
+rootOf N colour E k = root (number three) k (arranged three N colour (sorted colour (given E k)))

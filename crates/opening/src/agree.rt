@@ -8,7 +8,7 @@ use chain::clear;
 use intake::answer::Verdict;
 use intake::grid::CORNERS;
 use intake::grid::Grid;
-use split::row::Row;
+use split::row::same_row;
 use tables::layout::MOST_ROWS;
 use tables::layout::MOST_VERTICES;
 use tables::layout::POINT;
@@ -18,7 +18,7 @@ ghost use mathlib.Core.Bool.{true, _&&_};
 ghost use Prim.Native.Nat.{_≤_};
 ghost use lib.ListN.{length, replicate};
 ghost use Rattle.intake.specs.Cells.{gridOf, cells};
-ghost use Rattle.opening.specs.Agree.{sameRecord, sameRoot, recordsAgree, rowsAgree, agreed, workable};
+ghost use Rattle.opening.specs.Agree.{sameRecord, recordsAgree, rowsAgree, agreed, workable};
 ghost use Rattle.opening.specs.Scratch.{Plain, colourIn, paintLength, Given};
 
 fn same_record(a: Record, b: Record) -> bool
@@ -28,31 +28,6 @@ fn same_record(a: Record, b: Record) -> bool
         return a.second == b.second;
     }
     false
-}
-
-// Two rows but for the first child.
-fn same_root(a: Row, b: Row) -> bool
-    ensures { λ r. ⌜ r ≡ sameRoot a b ⌝ }
-{
-    if a.v0 != b.v0 {
-        return false;
-    }
-    if a.v1 != b.v1 {
-        return false;
-    }
-    if a.v2 != b.v2 {
-        return false;
-    }
-    if a.v3 != b.v3 {
-        return false;
-    }
-    if a.tag != b.tag {
-        return false;
-    }
-    if a.parent != b.parent {
-        return false;
-    }
-    a.depth == b.depth
 }
 
 fn records_agree(paint: &[u32], vertices: usize, records: &[u32]) -> bool
@@ -80,7 +55,7 @@ fn rows_agree(elements: &[u32], grid: Grid, paint: &[u32], vertices: usize, n: u
     let mut k = 0usize;
     while k < count {
         let held = tables::row::read(rows, k);
-        if !same_root(held, root_row(elements, grid, paint, vertices, n, k)) {
+        if !same_row(held, root_row(elements, grid, paint, vertices, n, k)) {
             return false;
         }
         k += 1;

@@ -2,6 +2,7 @@
 use intake::grid::Grid;
 use intake::grid::number_at;
 use split::row::Row;
+use split::row::root;
 ghost use mathlib.Core.Path.{_≡_};
 ghost use Prim.Native.Nat.{_<_};
 ghost use lib.ListN.{length};
@@ -96,14 +97,5 @@ pub fn root_row(elements: &[u32], grid: Grid, paint: &[u32], vertices: usize, n:
     let d = number_at(elements, grid, k, 3);
     let w = Four { a, b, c, d };
     let f = arrange(paint, n, sort(paint, w));
-    Row {
-        v0: f.a,
-        v1: f.b,
-        v2: f.c,
-        v3: f.d,
-        tag: 3,
-        parent: k as u32,
-        child: 0,
-        depth: 0,
-    }
+    root(3, k as u32, f.a, f.b, f.c, f.d)
 }

@@ -7,7 +7,7 @@ use lib.Dec.{eqb}
 use lib.ListN.{length, set}
 use Rattle.split.specs.declared.row.Row.{Row}
 use Rattle.split.specs.declared.row.Ends.{Ends}
-use Rattle.split.specs.Row.{edgeOf, firstOf, secondOf}
+use Rattle.split.specs.Row.{edgeOf, withChild, firstOf, secondOf}
 use Rattle.tables.specs.declared.layout.Size.{Size}
 use Rattle.tables.specs.declared.record.Record.{Record}
 use Rattle.intake.specs.declared.answer.Found.{Found}
@@ -46,10 +46,6 @@ abbrev pub blocking : List Row → ℕ → Found
 blocking W r = otherIn W (edgeOf (rowIn W r)) (holders W (edgeOf (rowIn W r)))
 
 -- ---- the split of a patch
-
--- the row with its first child
-abbrev pub withChild : Row → ℕ → Row
-withChild r c = record { v0 = r .v0; v1 = r .v1; v2 = r .v2; v3 = r .v3; tag = r .tag; parent = r .parent; child = c; depth = r .depth }
 
 -- leaf s split at vertex v: its first child and then its second are appended (01, "Closure")
 unfoldable pub cut : ℕ → List Row → ℕ → List Row

@@ -10,7 +10,7 @@ use lib.Ieee.{Float}
 use Rattle.split.specs.declared.row.Row.{Row}
 use Rattle.split.specs.Split.{left, right}
 use Rattle.tables.specs.declared.record.Record.{Record}
-use Rattle.tables.specs.Layout.{noFloat, pointWidth, recordWidth, rowWidth}
+use Rattle.tables.specs.Layout.{noFloat, pointWidth, recordWidth, rowWidth, rowFrom}
 use Rattle.tables.specs.Mesh.{Mesh}
 use Rattle.forest.specs.Element.{Element, el}
 use Rattle.intake.specs.Cells.{quads}
@@ -38,7 +38,7 @@ of a b = record { first = a; second = b }
 
 -- v0 v1 v2 v3, tag, parent, first child, depth
 abbrev pub row : ℕ → ℕ → ℕ → ℕ → ℕ → ℕ → ℕ → ℕ → Row
-row a b c d g p k n = record { v0 = a; v1 = b; v2 = c; v3 = d; tag = g; parent = p; child = k; depth = n }
+row a b c d g p k n = rowFrom (a ∷ b ∷ c ∷ d ∷ g ∷ p ∷ k ∷ n ∷ []) 0
 
 -- the one element of W1
 abbrev fromW1 : List (List ℕ) → List Record → List Row → List Element → Case

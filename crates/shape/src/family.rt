@@ -4,54 +4,16 @@ use chain::put;
 use chain::wide;
 use split::row::Ends;
 use split::row::Row;
+use split::row::across;
+use split::row::same_row;
 use tables::layout::Counts;
 ghost use mathlib.Core.Path.{_≡_};
 ghost use mathlib.Core.List.{[]};
 ghost use Prim.Native.Nat.{ℕ, _<_};
 ghost use lib.ListN.{getD};
-ghost use Rattle.split.specs.Split.{far};
-ghost use Rattle.split.specs.Row.{readTag, cornersOf};
-ghost use Rattle.sound.specs.Sound.{childless, Records, Child, Parent};
+ghost use Rattle.sound.specs.Sound.{Records, Child, Parent};
 ghost use Rattle.sound.specs.Check.{Decides, bare};
 ghost use Rattle.shape.specs.Shape.{Inside, Parents, Sided, Followed};
-
-// The vertex at the place of a tag.
-pub fn vertex_at(tag: u32, r: Row) -> u32
-    ensures { λ v. ⌜ v ≡ far (readTag tag) (cornersOf r) ⌝ }
-{
-    if tag == 1 {
-        return r.v1;
-    }
-    if tag == 2 {
-        return r.v2;
-    }
-    r.v3
-}
-
-// Whether two rows are the same but for the first child.
-fn same_row(a: Row, b: Row) -> bool
-    ensures { λ r. ⌜ Decides (childless a ≡ childless b) r ⌝ }
-{
-    if a.v0 != b.v0 {
-        return false;
-    }
-    if a.v1 != b.v1 {
-        return false;
-    }
-    if a.v2 != b.v2 {
-        return false;
-    }
-    if a.v3 != b.v3 {
-        return false;
-    }
-    if a.tag != b.tag {
-        return false;
-    }
-    if a.parent != b.parent {
-        return false;
-    }
-    a.depth == b.depth
-}
 
 // Whether v is a midpoint whose parents are the ends of the edge.
 fn records_edge(records: &[u32], rows: &[u32], c: Counts, i: usize, v: usize, e: Ends) -> bool
@@ -100,7 +62,7 @@ fn child_follows(records: &[u32], rows: &[u32], c: Counts, i: usize, r: usize) -
     if parent.child == 0 {
         return false;
     }
-    let m = vertex_at(parent.tag, held);
+    let m = across(parent.tag, held);
     if !records_edge(records, rows, c, i, wide(m), split::row::edge(parent)) {
         return false;
     }

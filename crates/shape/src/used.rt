@@ -1,7 +1,7 @@
 // Of clause 6: each midpoint was made by a split.
 use crate::family::children_follow;
-use crate::family::vertex_at;
 use chain::wide;
+use split::row::across;
 use tables::layout::Counts;
 ghost use mathlib.Core.Path.{_≡_};
 ghost use Prim.Native.Nat.{ℕ, _≤_, _<_};
@@ -15,7 +15,7 @@ pub fn middle(rows: &[u32], r: usize) -> usize
 {
     let held = tables::row::read(rows, r);
     let parent = tables::row::read(rows, wide(held.parent));
-    wide(vertex_at(parent.tag, held))
+    wide(across(parent.tag, held))
 }
 
 fn all_set(flags: &[u32], i: usize, n: usize) -> bool

@@ -9,6 +9,7 @@ use Rattle.split.specs.declared.row.Ends.{Ends}
 use Rattle.split.specs.declared.point.Point.{Point}
 use Rattle.split.specs.Split.{Side, left, right, at, Holds}
 use Rattle.split.specs.Row.{cornersOf, edgeOf, childOf, pair}
+pub use Rattle.split.specs.Row.{childless}
 use Rattle.split.specs.Midpoint.{between}
 use Rattle.tables.specs.declared.layout.Counts.{Counts}
 use Rattle.tables.specs.declared.record.Record.{Record}
@@ -35,10 +36,6 @@ recordOf m v = getD (m .records) v noRecord
 
 abbrev pub rowOf : Mesh → ℕ → Row
 rowOf m r = getD (m .rows) r noRow
-
--- a row but for its first child
-abbrev pub childless : Row → Row
-childless r = record { v0 = r .v0; v1 = r .v1; v2 = r .v2; v3 = r .v3; tag = r .tag; parent = r .parent; child = 0; depth = r .depth }
 
 -- rows as opening takes elements: each by its four vertices
 abbrev pub elementsOf : List Row → ℕ → Cells

@@ -3,6 +3,8 @@ pub mod Ends
 pub mod Places
 pub mod Children
 pub mod Rows
+pub mod Tests
+pub mod Same
 pub mod Nan
 pub mod Halving
 pub mod Commute

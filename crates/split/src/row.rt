@@ -2,7 +2,8 @@
 
 ghost use mathlib.Core.Path.{_≡_};
 ghost use Rattle.split.specs.Split.{far, corners, number, after, three};
-ghost use Rattle.split.specs.Row.{tagOf, cornersOf, readTag, edgeOf, below, deeper, firstOf, secondOf};
+ghost use Rattle.split.specs.Row as row;
+ghost use Rattle.split.specs.Row.{cornersOf, readTag, edgeOf, below, withChild, sameCorners, sameRow, deeper, firstOf, secondOf};
 
 pub struct Row {
     pub v0: u32,
@@ -21,13 +22,14 @@ pub struct Ends {
     pub large: u32,
 }
 
-fn across(r: Row) -> u32
-    ensures { λ v. ⌜ v ≡ far (tagOf r) (cornersOf r) ⌝ }
+// The vertex at the place of a tag, which may be another row's.
+pub fn across(tag: u32, r: Row) -> u32
+    ensures { λ v. ⌜ v ≡ far (readTag tag) (cornersOf r) ⌝ }
 {
-    if r.tag == 1 {
+    if tag == 1 {
         return r.v1;
     }
-    if r.tag == 2 {
+    if tag == 2 {
         return r.v2;
     }
     r.v3
@@ -37,7 +39,7 @@ pub fn edge(r: Row) -> Ends
     ensures { λ e. ⌜ e ≡ edgeOf r ⌝ }
 {
     let a = r.v0;
-    let b = across(r);
+    let b = across(r.tag, r);
     if a < b {
         Ends { small: a, large: b }
     } else {
@@ -101,4 +103,59 @@ pub fn second(r: Row, own: u32, m: u32) -> Row
         return child_at(r, own, r.v1, r.v2, m, r.v3);
     }
     child_at(r, own, r.v1, r.v2, r.v3, m)
+}
+
+// A root of these four vertices, whose own number is `own`.
+pub fn root(tag: u32, own: u32, v0: u32, v1: u32, v2: u32, v3: u32) -> Row
+    ensures { λ r. ⌜ r ≡ row.root tag own (corners v0 v1 v2 v3) ⌝ }
+{
+    Row {
+        v0,
+        v1,
+        v2,
+        v3,
+        tag,
+        parent: own,
+        child: 0,
+        depth: 0,
+    }
+}
+
+pub fn with_child(r: Row, child: u32) -> Row
+    ensures { λ p. ⌜ p ≡ withChild r child ⌝ }
+{
+    let mut p = r;
+    p.child = child;
+    p
+}
+
+fn same_corners(a: Row, b: Row) -> bool
+    ensures { λ r. ⌜ r ≡ sameCorners (cornersOf a) (cornersOf b) ⌝ }
+{
+    if a.v0 != b.v0 {
+        return false;
+    }
+    if a.v1 != b.v1 {
+        return false;
+    }
+    if a.v2 != b.v2 {
+        return false;
+    }
+    a.v3 == b.v3
+}
+
+// Whether two rows are the same but for the first child.
+pub fn same_row(a: Row, b: Row) -> bool
+    ensures { λ r. ⌜ r ≡ sameRow a b ⌝ }
+{
+    if !same_corners(a, b) {
+        return false;
+    }
+    if a.tag != b.tag {
+        return false;
+    }
+    if a.parent != b.parent {
+        return false;
+    }
+    a.depth == b.depth
 }

@@ -6,6 +6,7 @@ use Rattle.tables.proofs.layout.started.Reads as started
 use Rattle.tables.proofs.layout.resized.Reads as resized
 use Rattle.tables.proofs.layout.least.Reads as least
 use Rattle.tables.proofs.layout.room.Reads as room
+use Rattle.tables.proofs.row.unused.Reads as row-unused
 use Rattle.tables.proofs.row.read.Reads as row-read
 use Rattle.tables.proofs.row.write.Reads as row-write
 use Rattle.tables.proofs.record.read.Reads as record-read
@@ -25,6 +26,9 @@ least-determined κs a r r' s s' p q = p ∙ sym q
 
 pub room-determined : (κs : _) (a : _) (r r' : _) (s s' : _) → room.Learnt κs a r s → room.Learnt κs a r' s' → r ≡ r'
 room-determined κs a r r' s s' p q = p ∙ sym q
+
+pub row-unused-determined : (κs : _) (a : _) (r r' : _) (s s' : _) → row-unused.Learnt κs a r s → row-unused.Learnt κs a r' s' → r ≡ r'
+row-unused-determined κs a r r' s s' p q = p ∙ sym q
 
 pub row-read-determined : (κs : _) (a : _) (r r' : _) (s s' : _) → row-read.Learnt κs a r s → row-read.Learnt κs a r' s' → r ≡ r'
 row-read-determined κs a r r' s s' p q = p ∙ sym q

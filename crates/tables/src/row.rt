@@ -2,7 +2,23 @@
 use crate::layout::ROW;
 use split::row::Row;
 ghost use mathlib.Core.Path.{_≡_};
-ghost use Rattle.tables.specs.Layout.{rowAt, putRow};
+ghost use Rattle.tables.specs.Layout.{noRow, rowAt, putRow};
+
+// An unused row: zeros.
+pub fn unused() -> Row
+    ensures { λ r. ⌜ r ≡ noRow ⌝ }
+{
+    Row {
+        v0: 0,
+        v1: 0,
+        v2: 0,
+        v3: 0,
+        tag: 0,
+        parent: 0,
+        child: 0,
+        depth: 0,
+    }
+}
 
 // Row k, or zeros where the table has no row k.
 pub fn read(table: &[u32], k: usize) -> Row
@@ -21,16 +37,7 @@ pub fn read(table: &[u32], k: usize) -> Row
             depth: table[i + 7],
         };
     }
-    Row {
-        v0: 0,
-        v1: 0,
-        v2: 0,
-        v3: 0,
-        tag: 0,
-        parent: 0,
-        child: 0,
-        depth: 0,
-    }
+    unused()
 }
 
 // Stores row k; nothing changes where the table has no row k.

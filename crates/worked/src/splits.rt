@@ -4,16 +4,7 @@ use libc::STDOUT_FILENO;
 use split::row::Row;
 
 fn root(v0: u32, v1: u32, v2: u32, v3: u32, own: u32) -> Row {
-    Row {
-        v0,
-        v1,
-        v2,
-        v3,
-        tag: 3,
-        parent: own,
-        child: 0,
-        depth: 0,
-    }
+    split::row::root(3, own, v0, v1, v2, v3)
 }
 
 fn both(r: Row, own: u32, m: u32) {

@@ -8,7 +8,7 @@ use native.Mathlib.Omega.{arith}
 use lib.ListN.{length, getD, set}
 use Rattle.split.specs.declared.row.Row.{Row}
 use Rattle.split.specs.Split.{Side, left, right, Corners, at}
-use Rattle.split.specs.Row.{cornersOf, tagOf, firstOf, secondOf, childOf}
+use Rattle.split.specs.Row.{cornersOf, tagOf, withChild, firstOf, secondOf, childOf}
 use Rattle.split.proofs.laws.Places.{le-or-lt}
 use Rattle.split.proofs.laws.Tags.{tag-range}
 use Rattle.split.proofs.laws.Children.{from-parent}
@@ -20,7 +20,7 @@ use Rattle.tables.specs.Layout.{rowWidth, noRow, rowAt, putRow}
 use Rattle.tables.proofs.laws.Rows.{length-put-row, row-put}
 use Rattle.tables.proofs.laws.View.{length-up-to, up-to-at}
 use Rattle.closure.specs.State.{corner, rowsOf, linksAt, patchAt, scratchLength, cornersPushed, rowPushed, State, Splittable, Halves}
-use Rattle.run.specs.Run.{withChild, cut}
+use Rattle.run.specs.Run.{cut}
 use Rattle.closure.proofs.laws.Uses.{row-counted-length, row-counted-beyond, row-counted-indexed}
 use Rattle.closure.proofs.laws.Rows.{row-other, rows-next, rows-set}
 

@@ -7,23 +7,19 @@ use native.Mathlib.Omega.{arith}
 use borrow.Author.Tests.{le-leb, lt-leb}
 use Rattle.split.specs.declared.row.Row.{Row}
 use Rattle.split.proofs.laws.Places.{le-or-lt}
+use Rattle.split.proofs.laws.Same.{leaf-childless}
 use Rattle.tables.specs.Mesh.{Mesh}
 use Rattle.sound.specs.Sound.{rows, rowOf, childless, Grown}
-use Rattle.run.specs.Run.{withChild}
 use Rattle.run.proofs.laws.Grows.{Grows}
 use Rattle.frame.specs.Undo.{restored}
 
-restored-new : (n : ℕ) (r : Row) → n ≤ r .child → restored n r ≡ withChild r 0
+restored-new : (n : ℕ) (r : Row) → n ≤ r .child → restored n r ≡ childless r
 unfolding restored
 restored-new n r h = rw (le-leb n (r .child) h)
 
 restored-old : (n : ℕ) (r : Row) → r .child < n → restored n r ≡ r
 unfolding restored
 restored-old n r h = rw (lt-leb n (r .child) h)
-
--- a leaf is what it is but for its first child
-leaf-childless : (r : Row) → r .child ≡ 0 → childless r ≡ r
-leaf-childless r e = λ j. record { v0 = r .v0; v1 = r .v1; v2 = r .v2; v3 = r .v3; tag = r .tag; parent = r .parent; child = sym e j; depth = r .depth }
 
 module _ {m m' : Mesh} {i t : ℕ} (g : Grown m i t) (g' : Grown m' i t) (x : Grows m m' i t) where
   -- a leaf that was split since has its children past the old rows

@@ -6,8 +6,8 @@ use Prim.Native.Nat.{ℕ, _≤_, _<_}
 use native.Mathlib.Omega.{arith}
 use lib.ListN.{length, getD, take, length-map, List·getD-map}
 use lib.Seq.{length-take-le, getD-take, ext-getD}
-use Rattle.split.specs.Split.{at}
-use Rattle.split.specs.Row.{cornersOf}
+use Rattle.split.specs.Split.{corners, at}
+use Rattle.split.specs.Row.{cornersOf, remade}
 use Rattle.tables.specs.Layout.{noPoint, noRecord, noRow}
 use Rattle.tables.specs.Mesh.{Mesh}
 use Rattle.sound.specs.Sound.{vertices, rows, pointOf, recordOf, rowOf, childless, Afresh, Grown}
@@ -65,16 +65,9 @@ module _ {m : Mesh} {i t : ℕ} (g : Grown m i t) {gone : ℕ → Bool} (f : Fre
 
     thin-root : childless (thinRow m gone r) ≡ childless (rowOf m r)
     unfolding thinRow
-    thin-root = λ j. record {
-      v0 = corner-same 0 (omega arith) j;
-      v1 = corner-same 1 (omega arith) j;
-      v2 = corner-same 2 (omega arith) j;
-      v3 = corner-same 3 (omega arith) j;
-      tag = rowOf m r .tag;
-      parent = root-same g f (rowOf m r .parent) (omega (arith, g .parted .roots r h)) j;
-      child = 0;
-      depth = rowOf m r .depth;
-    }
+    thin-root =
+        let parent = root-same g f (rowOf m r .parent) (omega (arith, g .parted .roots r h)) in
+        λ j. remade (rowOf m r) (corners (corner-same 0 (omega arith) j) (corner-same 1 (omega arith) j) (corner-same 2 (omega arith) j) (corner-same 3 (omega arith) j)) (parent j) 0
 
     pub root-row : childless (rowOf after r) ≡ childless (rowOf m r)
     root-row = ap (λ (x : ℕ). childless (rowOf after x)) (sym (root-same g f r (omega arith))) ∙ ap childless (row-at m i gone r (omega (arith, g .parted .rows-in)) (root-kept g f r h)) ∙ thin-root

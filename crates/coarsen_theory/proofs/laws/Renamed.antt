@@ -5,15 +5,12 @@ use Prim.Native.Nat.{ℕ, zero, suc, _≤_}
 use native.Mathlib.Omega.{arith}
 use Rattle.split.specs.declared.row.Row.{Row}
 use Rattle.split.specs.declared.row.Ends.{Ends}
-use Rattle.split.specs.Split.{Tag, one, two, three, Side, left, right, Corners, corners, number, at, far, first, second}
+use Rattle.split.specs.Split.{Tag, one, two, three, Side, left, right, Corners, number, at, far, first, second}
 use Rattle.split.specs.Row.{cornersOf, tagOf, edgeOf, pair, ends, below, firstOf, secondOf, childOf}
 use Rattle.split.proofs.laws.Places.{le-or-lt}
 use Rattle.split.proofs.laws.Children.{far-at}
 use Rattle.split.proofs.laws.Ends.{ends-rising, ends-falling}
-use Rattle.coarsen_theory.specs.Thinned.{renamed}
-
-abbrev mapped : (ℕ → ℕ) → Corners ℕ → Corners ℕ
-mapped f c = corners (f (c .v0)) (f (c .v1)) (f (c .v2)) (f (c .v3))
+use Rattle.coarsen_theory.specs.Thinned.{mapped, renamed}
 
 mapped-at : (f : ℕ → ℕ) (c : Corners ℕ) (p : ℕ) → at (mapped f c) p ≡ f (at c p)
 mapped-at f c zero = refl

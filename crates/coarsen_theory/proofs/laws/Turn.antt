@@ -10,9 +10,8 @@ use native.Mathlib.Omega.{arith}
 use borrow.Author.Tests.{lt-ltb, le-ltb, eq-eqb, ne-eqb}
 use lib.Dec.{eqb}
 use native.Mathlib.Decide.{ℕ-discrete}
-use Rattle.split.specs.declared.row.Row.{Row}
-use Rattle.split.specs.Split.{at}
-use Rattle.split.specs.Row.{cornersOf}
+use Rattle.split.specs.Split.{corners, at}
+use Rattle.split.specs.Row.{cornersOf, remade}
 use Rattle.split.proofs.laws.Places.{le-or-lt}
 use Rattle.tables.specs.Mesh.{Mesh}
 use Rattle.intake.specs.Search.{count}
@@ -25,7 +24,7 @@ use Rattle.coarsen_theory.specs.Thinned.{stays, keeps, newVertex, newRow
 use Rattle.coarsen_theory.proofs.laws.Sifted.{count-apart}
 use Rattle.coarsen_theory.proofs.laws.Free.{now-leaf, droppable-says, leaf-later}
 use Rattle.coarsen_theory.proofs.laws.Together.{stays-says, says-stays, kept-holds, holds-kept}
-use Rattle.coarsen_theory.proofs.laws.Moved.{vertices-thinned, rows-thinned, point-at, record-initial, record-midpoint, row-at, row-parent, row-child, row-depth, row-corner, leaf, parent, Fate, fate, initial-same, midpoint-new, open-later}
+use Rattle.coarsen_theory.proofs.laws.Moved.{vertices-thinned, rows-thinned, point-at, record-initial, record-midpoint, row-at, row-parent, row-child, row-corner, leaf, parent, Fate, fate, initial-same, midpoint-new, open-later}
 use Rattle.coarsen_theory.proofs.laws.Clauses.{row-open}
 use Rattle.coarsen_theory.proofs.laws.Judged.{split-same, droppable-same}
 
@@ -178,23 +177,8 @@ module _ {m : Mesh} {i t : ℕ} (g : Grown m i t) {gone : ℕ → Bool} (f : Fre
 
     row-again-is : thinRow m more r ≡ thinRow after again (newRow m gone r)
     unfolding thinRow
-    row-again-is = λ j. record {
-      v0 = corner-again 0 j;
-      v1 = corner-again 1 j;
-      v2 = corner-again 2 j;
-      v3 = corner-again 3 j;
-      tag = tag-again j;
-      parent = parent-again j;
-      child = child-again j;
-      depth = depth-again j;
-    }
+    row-again-is = λ j. remade (sym (row-at m i gone r b k) j) (corners (corner-again 0 j) (corner-again 1 j) (corner-again 2 j) (corner-again 3 j)) (parent-again j) (child-again j)
       where
-        tag-again : rowOf m r .tag ≡ rowOf after (newRow m gone r) .tag
-        tag-again = sym (ap (λ (x : Row). x .tag) (row-at m i gone r b k))
-
-        depth-again : rowOf m r .depth ≡ rowOf after (newRow m gone r) .depth
-        depth-again = sym (row-depth m i gone r b k)
-
         parent-again : newRow m more (rowOf m r .parent) ≡ newRow after again (rowOf after (newRow m gone r) .parent)
         parent-again = row-again (rowOf m r .parent) parent-below ∙ ap (newRow after again) (sym (row-parent m i gone r b k))
 

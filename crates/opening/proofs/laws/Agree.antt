@@ -7,11 +7,12 @@ use Prim.Native.Nat.{ℕ, zero, suc, _+_, _*_, _/_, _%_, _≤_, _<_, zero-le}
 use native.Mathlib.Nat.{eq-or-lt-of-le, le-of-suc-le-suc, le-antisymm}
 use native.Mathlib.Numerals.{add-one}
 use native.Mathlib.Omega.{arith}
-use borrow.Author.Tests.{eqb-true, eq-eqb, ne-eqb, le-leb, lt-leb, leb-true, not-true, not-false}
+use borrow.Author.Tests.{eqb-true, eq-eqb, le-leb, lt-leb, leb-true, not-true, not-false}
 use lib.Dec.{eqb, leb}
 use lib.ListN.{length, replicate, length-replicate}
 use lib.Ieee.{Float}
-use Rattle.split.specs.declared.row.Row.{Row}
+use Rattle.split.specs.Row.{sameRow}
+use Rattle.split.proofs.laws.Tests.{fails, holds, both}
 use Rattle.tables.specs.declared.record.Record.{Record}
 use Rattle.tables.specs.Layout.{recordAt, rowAt}
 use Rattle.intake.specs.Cells.{Cells}
@@ -22,31 +23,17 @@ use Rattle.opening.specs.Colours.{colours, largest}
 use Rattle.opening.specs.Order.{rootOf}
 use Rattle.opening.specs.Opening.{initial, late}
 use Rattle.opening.specs.Scratch.{linksAt, Moderate, Given, Passing, colourIn}
-use Rattle.opening.specs.Agree.{accepts, every, sameRecord, sameRoot, recordsAgree, rowsAgree, paint, agreed, workable}
+use Rattle.opening.specs.Agree.{accepts, every, sameRecord, recordsAgree, rowsAgree, paint, agreed, workable}
 use Rattle.opening.proofs.laws.Opened.{colours-stored}
 use Rattle.opening.proofs.laws.Indexing.{given-zeros}
 
 -- ---- a chain of `&&`
 
--- the first test fails
-pub fails : (a b : Bool) → a ≡ false → false ≡ (a && b)
-fails a b p = rw p
-
--- the first test holds: the others decide
-pub holds : (a b r : Bool) → a ≡ true → r ≡ b → r ≡ (a && b)
-holds a b r p q = rw (p, q)
-
-pub ruleset agreeing = (fails, holds, eq-eqb, ne-eqb)
-
-pub both : (a b : Bool) → (a && b) ≡ true → (a ≡ true) × (b ≡ true)
-both true b e = (refl, e)
-both false b e = absurd (true≢false (sym e))
-
 fails-last : (a : Bool) → (a && false) ≡ false
 fails-last true = refl
 fails-last false = refl
 
--- ---- two records, and two rows but for the first child
+-- ---- two records
 
 record-same : (a b : Record) → sameRecord a b ≡ true → a ≡ b
 unfolding sameRecord
@@ -57,51 +44,6 @@ record-same a b e =
 same-record : (a b : Record) → a ≡ b → sameRecord a b ≡ true
 unfolding sameRecord
 same-record a b e = rw (e, eq-eqb (b .first) _ refl, eq-eqb (b .second) _ refl)
-
-pub record ButChild (a b : Row) : Type 0 where
-  pub same-v0 : a .v0 ≡ b .v0
-  pub same-v1 : a .v1 ≡ b .v1
-  pub same-v2 : a .v2 ≡ b .v2
-  pub same-v3 : a .v3 ≡ b .v3
-  pub same-tag : a .tag ≡ b .tag
-  pub same-parent : a .parent ≡ b .parent
-  pub same-depth : a .depth ≡ b .depth
-
--- one number is the same, and then the rest
-equal-then : (a b : ℕ) (r : Bool) → (eqb a b && r) ≡ true → (a ≡ b) × (r ≡ true)
-equal-then a b r e = let (p, q) = both (eqb a b) r e in (eqb-true a b p, q)
-
-then-equal : (a b : ℕ) (r : Bool) → a ≡ b → r ≡ true → (eqb a b && r) ≡ true
-then-equal a b r p q = rw (eq-eqb a b p, q)
-
-pub root-same : (a b : Row) → sameRoot a b ≡ true → ButChild a b
-unfolding sameRoot
-root-same a b e =
-    let (p0, e0) = equal-then (a .v0) (b .v0) _ e in
-    let (p1, e1) = equal-then (a .v1) (b .v1) _ e0 in
-    let (p2, e2) = equal-then (a .v2) (b .v2) _ e1 in
-    let (p3, e3) = equal-then (a .v3) (b .v3) _ e2 in
-    let (p4, e4) = equal-then (a .tag) (b .tag) _ e3 in
-    let (p5, e5) = equal-then (a .parent) (b .parent) _ e4 in
-    record {
-      same-v0 = p0;
-      same-v1 = p1;
-      same-v2 = p2;
-      same-v3 = p3;
-      same-tag = p4;
-      same-parent = p5;
-      same-depth = eqb-true (a .depth) (b .depth) e5;
-    }
-
-pub same-root : (a b : Row) → ButChild a b → sameRoot a b ≡ true
-unfolding sameRoot
-same-root a b s =
-    then-equal _ _ _ (s .same-v0)
-    (then-equal _ _ _ (s .same-v1)
-    (then-equal _ _ _ (s .same-v2)
-    (then-equal _ _ _ (s .same-v3)
-    (then-equal _ _ _ (s .same-tag)
-    (then-equal _ _ _ (s .same-parent) (eq-eqb _ _ (s .same-depth)))))))
 
 -- ---- a test at all places below n
 
@@ -228,7 +170,7 @@ module _ (F : List Float) (E : Cells) (R W : List ℕ) where
   pub agreed-means : agreed F E R W ≡ true
       → (plain F E (late E (length F / 3)) ≡ Passed)
       × ((v : ℕ) → v < length F / 3 → recordAt R v ≡ initial (paint F E v))
-      × ((k : ℕ) → k < E .count → sameRoot (rowAt W k) (rootOf (largest (colours E (length F / 3))) (paint F E) E k) ≡ true)
+      × ((k : ℕ) → k < E .count → sameRow (rowAt W k) (rootOf (largest (colours E (length F / 3))) (paint F E) E k) ≡ true)
   unfolding agreed rowsAgree
   agreed-means e =
       let (a, b) = both _ _ e in
@@ -237,7 +179,7 @@ module _ (F : List Float) (E : Cells) (R W : List ℕ) where
 
   pub means-agreed : plain F E (late E (length F / 3)) ≡ Passed
       → ((v : ℕ) → v < length F / 3 → recordAt R v ≡ initial (paint F E v))
-      → ((k : ℕ) → k < E .count → sameRoot (rowAt W k) (rootOf (largest (colours E (length F / 3))) (paint F E) E k) ≡ true)
+      → ((k : ℕ) → k < E .count → sameRow (rowAt W k) (rootOf (largest (colours E (length F / 3))) (paint F E) E k) ≡ true)
       → agreed F E R W ≡ true
   unfolding agreed rowsAgree
   means-agreed e r w = rw (e, same-records (paint F E) R (length F / 3) r, all-every _ (E .count) w)

@@ -8,13 +8,14 @@ use native.Mathlib.Omega.{arith}
 use borrow.Author.Tests.{ltb-true, ltb-false, lt-ltb, le-ltb, eq-eqb, ne-eqb}
 use lib.Dec.{ltb}
 use lib.ListN.{length, getD}
-use Rattle.split.specs.Split.{three, Corners, corners}
+use Rattle.split.specs.Split.{three, number, Corners, corners}
+use Rattle.split.specs.Row.{root}
 use Rattle.forest.specs.Start.{arranged, moved}
 use Rattle.intake.specs.Cells.{Cells}
 use Rattle.intake.specs.Causes.{vertex}
 use Rattle.opening.specs.declared.order.Two.{Two}
 use Rattle.opening.specs.declared.order.Four.{Four}
-use Rattle.opening.specs.Order.{lower, upper, sorted, given, root, rootOf}
+use Rattle.opening.specs.Order.{lower, upper, sorted, given, rootOf}
 use Rattle.opening.specs.Scratch.{Plain}
 use Rattle.opening.specs.Sorting.{four, inOrder, Low}
 
@@ -83,6 +84,6 @@ module _ (E : Cells) (k : ℕ) {a b c d : ℕ} (p : a ≡ vertex E k 0) (q : b �
     d = omega (arith, x .there k 3 h (omega arith), x .most);
   }
 
-  pub root-is : (N : ℕ) (f : ℕ → ℕ) (v w : Four) → four v ≡ sorted f (corners a b c d) → four w ≡ arranged three N f (four v) → root k (four w) ≡ rootOf N f E k
+  pub root-is : (N : ℕ) (f : ℕ → ℕ) (v w : Four) → four v ≡ sorted f (corners a b c d) → four w ≡ arranged three N f (four v) → root (number three) k (four w) ≡ rootOf N f E k
   unfolding rootOf
-  root-is N f v w e g = ap (root k) (g ∙ rw (e, p, q, r, s))
+  root-is N f v w e g = ap (root (number three) k) (g ∙ rw (e, p, q, r, s))

@@ -1,5 +1,5 @@
 -- The split of one leaf keeps everything in sound tables but their last condition (01, "Sound tables", clauses 2 to 6).
-use mathlib.Core.Path.{_≡_, refl, sym, ap, _∙_}
+use mathlib.Core.Path.{_≡_, sym, ap, _∙_}
 use mathlib.Core.List.{map}
 use mathlib.Core.Logic.{inl, inr}
 use Prim.Native.Nat.{ℕ, _+_, _≤_, _<_}
@@ -9,19 +9,19 @@ use lib.ListN.{take}
 use Rattle.split.specs.declared.row.Row.{Row}
 use Rattle.split.specs.declared.row.Ends.{Ends}
 use Rattle.split.specs.Split.{Side, left, right, number, far}
-use Rattle.split.specs.Row.{cornersOf, tagOf, ends, edgeOf, below, firstOf, secondOf, childOf, pair}
+use Rattle.split.specs.Row.{cornersOf, tagOf, ends, edgeOf, withChild, firstOf, secondOf, childOf, pair}
 use Rattle.split.specs.Midpoint.{between}
 use Rattle.split.proofs.laws.Places.{le-or-lt}
 use Rattle.split.proofs.laws.Tags.{tag-range}
 use Rattle.split.proofs.laws.Children.{far-at}
 use Rattle.split.proofs.laws.Ends.{ends-rising, ends-falling}
 use Rattle.split.proofs.laws.Rows.{row-step, deeper-is}
+use Rattle.split.proofs.laws.Same.{child-leaf, edge-childless, child-childless}
 use Rattle.tables.specs.declared.record.Record.{Record}
 use Rattle.tables.specs.Mesh.{Mesh}
 use Rattle.sound.specs.Sound.{vertices, rows, pointOf, recordOf, rowOf, childless, Parted, Records, place, Child, Parent, Midpoint, Grown}
 use Rattle.sound.proofs.laws.Front.{afresh-same}
 use Rattle.sound.proofs.laws.Placed.{placed, row-distinct}
-use Rattle.run.specs.Run.{withChild}
 
 -- the rows of m' are those of m with the leaf s split at the vertex v
 pub record RowsCut (m m' : Mesh) (t s v : ℕ) : Type 0 where
@@ -49,22 +49,6 @@ pub record Cuts (m m' : Mesh) (i t s v : ℕ) : Type 0 where
   pub new : (u : ℕ) → vertices m ≤ u → u < vertices m' → u ≡ v
   pub only : (u : ℕ) → vertices m ≤ v → i ≤ u → u < vertices m → pair (recordOf m u .first) (recordOf m u .second) ≡ edgeOf (rowOf m s) → ⊥
   pub point-new : vertices m ≤ v → pointOf m' v ≡ between (pointOf m' (recordOf m' v .first)) (pointOf m' (recordOf m' v .second))
-
--- ---- rows that differ in the first child only
-
-pub edge-childless : (a b : Row) → childless a ≡ childless b → edgeOf a ≡ edgeOf b
-unfolding edgeOf
-edge-childless a b e = ap edgeOf e
-
-pub child-childless : (x : Side) (a b : Row) (own v : ℕ) → childless a ≡ childless b → childOf x a own v ≡ childOf x b own v
-unfolding firstOf secondOf below
-child-childless left a b own v e = ap (λ (r : Row). firstOf r own v) e
-child-childless right a b own v e = ap (λ (r : Row). secondOf r own v) e
-
-child-leaf : (x : Side) (r : Row) (own v : ℕ) → childless (childOf x r own v) ≡ childOf x r own v
-unfolding firstOf secondOf below
-child-leaf left r own v = refl
-child-leaf right r own v = refl
 
 -- ---- the ends of a row's edge
 

@@ -7,12 +7,12 @@ use native.Mathlib.Omega.{arith}
 use lib.ListN.{length, getD, take, set, length-append, length-set, List·getD-append}
 use lib.Seq.{getD-append-add, getD-set-same, getD-set-other, take-append-le, map-set-same, take-set-le, take-set-lt, getD-take}
 use Rattle.split.specs.declared.row.Row.{Row}
-use Rattle.split.specs.Row.{firstOf, secondOf}
+use Rattle.split.specs.Row.{withChild, firstOf, secondOf}
 use Rattle.split.proofs.laws.Places.{le-or-lt}
 use Rattle.tables.specs.Layout.{noRow}
 use Rattle.sound.specs.Sound.{childless}
 use Rattle.run.specs.Skeleton.{rowIn}
-use Rattle.run.specs.Run.{withChild, cut}
+use Rattle.run.specs.Run.{cut}
 
 -- what is appended to a list, by number
 pub append-first : {A : Type 0} (l : List A) (n : ℕ) (x d : A) (xs : List A) → length l ≡ n → getD (l ++ x ∷ xs) n d ≡ x

@@ -1,6 +1,6 @@
 -- Clauses 4 and 5 in the words of the tables, and how answers to parts of a question answer the whole.
 use mathlib.Core.Path.{_≡_, refl, sym, ap, _∙_}
-use mathlib.Core.Bool.{Bool}
+use mathlib.Core.Bool.{Bool, true≢false}
 use mathlib.Core.List.{List}
 use Prim.Native.Nat.{ℕ, _+_, _≤_, _<_}
 use native.Mathlib.Omega.{arith}
@@ -8,9 +8,10 @@ use lib.Dec.{eqb}
 use Rattle.split.specs.declared.row.Row.{Row}
 use Rattle.split.specs.declared.row.Ends.{Ends}
 use Rattle.split.specs.Split.{number, Corners, at, far, Side, left, right}
-use Rattle.split.specs.Row.{cornersOf, tagOf, edgeOf, below, firstOf, secondOf, childOf}
+use Rattle.split.specs.Row.{cornersOf, tagOf, edgeOf, sameRow, childOf}
 use Rattle.split.proofs.laws.Children.{far-at, at-new}
 use Rattle.split.proofs.laws.Rows.{vertices-step}
+use Rattle.split.proofs.laws.Same.{child-leaf, row-same, same-row}
 use Rattle.split.proofs.laws.Places.{Against, less, equal, more, against}
 use Rattle.tables.specs.declared.layout.Counts.{Counts}
 use Rattle.tables.specs.declared.record.Record.{Record}
@@ -63,33 +64,9 @@ module _ {P : ℕ → Type 0} {t k : ℕ} (a : Asked P t k) where
 
 -- ---- rows but for the first child
 
-pub record Same (a b : Row) : Type 0 where
-  pub v0 : a .v0 ≡ b .v0
-  pub v1 : a .v1 ≡ b .v1
-  pub v2 : a .v2 ≡ b .v2
-  pub v3 : a .v3 ≡ b .v3
-  pub tag : a .tag ≡ b .tag
-  pub parent : a .parent ≡ b .parent
-  pub depth : a .depth ≡ b .depth
-
-pub same-rows : (a b : Row) → Same a b → childless a ≡ childless b
-same-rows a b s = cc
-
-pub same-fields : {a b : Row} → a ≡ b → Same a b
-same-fields e = record {
-  v0 = ap (λ (r : Row). r .v0) e;
-  v1 = ap (λ (r : Row). r .v1) e;
-  v2 = ap (λ (r : Row). r .v2) e;
-  v3 = ap (λ (r : Row). r .v3) e;
-  tag = ap (λ (r : Row). r .tag) e;
-  parent = ap (λ (r : Row). r .parent) e;
-  depth = ap (λ (r : Row). r .depth) e;
-}
-
-leaf : (s : Side) (r : Row) (own m : ℕ) → childless (childOf s r own m) ≡ childOf s r own m
-unfolding firstOf secondOf below
-leaf left r own m = refl
-leaf right r own m = refl
+-- what the comparison answers
+decides-rows : (a b : Row) {r : Bool} → r ≡ sameRow a b → Decides (childless a ≡ childless b) r
+decides-rows a b e = rw e (record { yes = row-same a b; no = λ n s. true≢false (sym (same-row a b s) ∙ n) })
 
 -- the midpoint stands in a child at the place of the parent's tag
 child-vertex : (s : Side) (held parent : Row) (p v : ℕ) → childless held ≡ childOf s parent p v → v ≡ far (tagOf parent) (cornersOf held)
@@ -108,11 +85,11 @@ place-apart right left c e = absurd (omega arith)
 place-apart right right c e = refl
 
 -- the row at the place of a side is a child if it is the child of this side
-pub sided-here : (s : Side) {held parent k : Row} {r p v : ℕ} {b : Bool} → r ≡ place s (parent .child) → k ≡ childOf s parent p v → Decides (childless held ≡ childless k) b → Decides (Sided held r parent p v) b
-sided-here s {held} {parent} {k} {r} {p} {v} here e d = decides-as d (λ q. record { side = s; here = here; is = q ∙ is }) (λ a. a .is ∙ other (a .side) (a .here) ∙ sym is)
+pub sided-here : (s : Side) {held parent k : Row} {r p v : ℕ} {b : Bool} → r ≡ place s (parent .child) → k ≡ childOf s parent p v → b ≡ sameRow held k → Decides (Sided held r parent p v) b
+sided-here s {held} {parent} {k} {r} {p} {v} here e d = decides-as (decides-rows held k d) (λ q. record { side = s; here = here; is = q ∙ is }) (λ a. a .is ∙ other (a .side) (a .here) ∙ sym is)
   where
     is : childless k ≡ childOf s parent p v
-    is = rw e (leaf s parent p v)
+    is = rw e (child-leaf s parent p v)
 
     other : (t : Side) → r ≡ place t (parent .child) → childOf t parent p v ≡ childOf s parent p v
     other t h = rw (place-apart t s (parent .child) (sym h ∙ here))

@@ -5,12 +5,13 @@ use mathlib.Core.List.{List}
 use Prim.Native.Nat.{ℕ, _/_, _≤_, _<_}
 use native.Mathlib.Omega.{arith}
 use lib.ListN.{length}
-use Rattle.split.specs.Split.{three, Corners, corners, at, Holds}
+use Rattle.split.specs.Split.{three, number, Corners, corners, at, Holds}
+use Rattle.split.specs.Row.{root}
 use Rattle.split.proofs.laws.Places.{Against, less, equal, more, against}
 use Rattle.forest.specs.Start.{arranged}
 use Rattle.intake.specs.Cells.{Cells}
 use Rattle.intake.specs.Causes.{vertex, has}
-use Rattle.opening.specs.Order.{sorted, given, root, rootOf}
+use Rattle.opening.specs.Order.{sorted, given, rootOf}
 use Rattle.opening.proofs.laws.Colours.{has-place, has-some}
 use Rattle.opening.proofs.laws.Sorted.{sorted-of, sorted-has, sorted-climbs}
 use Rattle.sound.proofs.laws.Searches.{each-of-four}
@@ -100,7 +101,7 @@ module _ {f : ℕ → ℕ} {E : Cells} (d : Proper f E) where
 
 pub root-reordered : {E E' : Cells} {f : ℕ → ℕ} → Reordered E E' → Proper f E → Proper f E' → (N k : ℕ) → k < E .count → rootOf N f E k ≡ rootOf N f E' k
 unfolding rootOf
-root-reordered {E} {E'} {f} r d d' N k h = ap (λ (w : Corners ℕ). root k (arranged three N f w)) (climbs-once (sorted-climb d k h) (sorted-climb d' k (rw (← r .long) h)) kept)
+root-reordered {E} {E'} {f} r d d' N k h = ap (λ (w : Corners ℕ). root (number three) k (arranged three N f w)) (climbs-once (sorted-climb d k h) (sorted-climb d' k (rw (← r .long) h)) kept)
   where
     kept : (x : ℕ) → Holds 3 (sorted f (given E k)) x → Holds 3 (sorted f (given E' k)) x
     kept x s = sorted-has f (given E' k) x (has-holds E' k x (sym (r .same k x h) ∙ holds-has E k x (sorted-of f (given E k) x s)))

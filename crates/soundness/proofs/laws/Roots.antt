@@ -11,7 +11,9 @@ use lib.Seq.{length-take-le}
 use lib.Ieee.{Float}
 use Rattle.split.specs.declared.row.Row.{Row}
 use Rattle.split.specs.Split.{at}
-use Rattle.split.specs.Row.{cornersOf}
+use Rattle.split.specs.Row.{cornersOf, sameRow}
+use Rattle.split.proofs.laws.Tests.{both}
+use Rattle.split.proofs.laws.Same.{leaf-childless, row-same, same-row}
 use Rattle.tables.specs.declared.layout.Counts.{Counts}
 use Rattle.tables.specs.Layout.{noRow, pointAt, recordAt, rowAt, rowFrom, roomOf}
 use Rattle.tables.specs.Mesh.{Mesh, meshOf, upTo}
@@ -24,7 +26,7 @@ use Rattle.opening.specs.Colours.{colours, largest}
 use Rattle.opening.specs.Order.{rootOf}
 use Rattle.opening.specs.Opening.{late, initial, openedMesh}
 use Rattle.opening.specs.Agree.{paint, agreed, workable}
-use Rattle.opening.proofs.laws.Agree.{ButChild, root-same, same-root, both, Workable, workable-means, means-workable, agreed-means, means-agreed}
+use Rattle.opening.proofs.laws.Agree.{Workable, workable-means, means-workable, agreed-means, means-agreed}
 use Rattle.sound.specs.Sound.{childless, givenPoints, rootCells, Afresh, Fitting}
 use Rattle.sound.specs.Check.{Decides, lent}
 use Rattle.sound.proofs.laws.Flat.{up-to-same, up-to-front, up-to-map, up-to-each}
@@ -35,25 +37,17 @@ use Rattle.shape.proofs.laws.Fitted.{fitting-points, fitting-inside}
 
 -- ---- the comparison
 
--- a root has no child: it is a row but for its child exactly if the two are the same in the rest
-but-child : (a b : Row) → b .child ≡ 0 → ButChild a b → b ≡ childless a
-but-child a b leaf s = λ i. record {
-  v0 = sym (s .same-v0) i;
-  v1 = sym (s .same-v1) i;
-  v2 = sym (s .same-v2) i;
-  v3 = sym (s .same-v3) i;
-  tag = sym (s .same-tag) i;
-  parent = sym (s .same-parent) i;
-  child = leaf i;
-  depth = sym (s .same-depth) i;
-}
-
-child-but : (a b : Row) → b ≡ childless a → ButChild a b
-child-but a b e = rw e (record { same-v0 = refl; same-v1 = refl; same-v2 = refl; same-v3 = refl; same-tag = refl; same-parent = refl; same-depth = refl })
-
 root-leaf : (N : ℕ) (f : ℕ → ℕ) (E : Cells) (k : ℕ) → rootOf N f E k .child ≡ 0
 unfolding rootOf
 root-leaf N f E k = refl
+
+-- a root has no child: it is a row but for its child exactly if the two are the same in the rest
+module _ (a b : Row) (leaf : b .child ≡ 0) where
+  root-row : sameRow a b ≡ true → b ≡ childless a
+  root-row s = sym (row-same a b s ∙ leaf-childless b leaf)
+
+  row-root : b ≡ childless a → sameRow a b ≡ true
+  row-root e = same-row a b (sym (leaf-childless b leaf ∙ e))
 
 module _ (F : List Float) (E : Cells) (R W : List ℕ) where
   -- opening F and E passes tests 3 to 8, and gives the colours and, but for the first child, the rows that stand in front of the tables
@@ -74,7 +68,7 @@ module _ (F : List Float) (E : Cells) (R W : List ℕ) where
         opens = a;
         colours = up-to-same (recordAt R) (length F / 3) (recordAt R 0) (λ v. initial (paint F E v)) (λ v h. sym (b v h));
         rows =
-            up-to-same (λ k. childless (rowAt W k)) (E .count) (rowAt W 0) made (λ k h. but-child (rowAt W k) (made k) (root-leaf _ _ E k) (root-same _ _ (d k h)))
+            up-to-same (λ k. childless (rowAt W k)) (E .count) (rowAt W 0) made (λ k h. root-row (rowAt W k) (made k) (root-leaf _ _ E k) (d k h))
             ∙ sym (up-to-map (rowAt W) childless (E .count));
       }
 
@@ -83,7 +77,7 @@ module _ (F : List Float) (E : Cells) (R W : List ℕ) where
   alike-agreed s =
       means-agreed F E R W (s .opens)
       (λ v h. sym (up-to-each (recordAt R) (λ v. initial (paint F E v)) (length F / 3) (s .colours) v h))
-      (λ k h. same-root _ _ (child-but (rowAt W k) (made k) (up-to-each (λ k. childless (rowAt W k)) made (E .count) (s .rows ∙ up-to-map (rowAt W) childless (E .count)) k h)))
+      (λ k h. row-root (rowAt W k) (made k) (root-leaf _ _ E k) (up-to-each (λ k. childless (rowAt W k)) made (E .count) (s .rows ∙ up-to-map (rowAt W) childless (E .count)) k h))
 
 views-alike : {E E' : Cells} → Views E E' → (F : List Float) (R W : List ℕ) → Alike F E R W → Alike F E' R W
 views-alike {E} {E'} x F R W s =

@@ -1,7 +1,7 @@
 use mathlib.Core.Path.{ap, _∙_}
 use Rattle.split.specs.declared.row.Row.{Row}
 use Rattle.tables.specs.Layout.{rowAt, putRow}
-use Rattle.run.specs.Run.{withChild}
+use Rattle.split.specs.Row.{withChild}
 use borrow.Author.Needs.{needs}
 use Rattle.closure.proofs.leaf.adopt.Statement.{statement}
 use Rattle.closure.proofs.leaf.adopt.Tie as tie

@@ -1,5 +1,5 @@
 use Rattle.opening.specs.Agree.{sameRecord}
-use Rattle.opening.proofs.laws.Agree.{agreeing}
+use Rattle.split.proofs.laws.Tests.{agreeing}
 use Rattle.opening.proofs.agree.same_record.Statement.{statement}
 use Rattle.opening.proofs.agree.same_record.Tie as tie
 

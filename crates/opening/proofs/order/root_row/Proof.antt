@@ -1,3 +1,5 @@
+-- `order::root_row`: a plain element has vertices that have colours. Assumes nothing.
+use mathlib.Core.Path.{_∙_}
 use Rattle.opening.proofs.laws.Sorting.{read-low, root-is}
 use borrow.Author.Needs.{needs}
 use Rattle.opening.proofs.order.root_row.Statement.{statement}
@@ -21,11 +23,14 @@ sort-requires c κs = (search needs, search (read-low, needs))
 arrange-requires : tie.Need-arrange-requires
 arrange-requires c κs = search needs
 
-cast-t14 : tie.Need-cast-t14
-cast-t14 c = search needs
+cast-root : tie.Need-cast-root
+cast-root c = search needs
+
+root-requires : tie.Need-root-requires
+root-requires c κs = search needs
 
 returns : tie.Need-returns
-returns c = root-is _ _ (c .before .before .before .before .before .number-at .ensures) (c .before .before .before .before .number-at2 .ensures) (c .before .before .before .number-at3 .ensures) (c .before .before .number-at4 .ensures) _ _ _ _ (c .before .sort .ensures .0) (c .arrange .ensures)
+returns c = c .root .ensures ∙ root-is _ _ (c .before .before .before .before .before .before .number-at .ensures) (c .before .before .before .before .before .number-at2 .ensures) (c .before .before .before .before .number-at3 .ensures) (c .before .before .before .number-at4 .ensures) _ _ _ _ (c .before .before .sort .ensures .0) (c .before .arrange .ensures)
 
 pub root-row-spec : {M : Type 1} → statement M
 root-row-spec =
@@ -37,5 +42,6 @@ root-row-spec =
     number-at-requires-4
     sort-requires
     arrange-requires
-    cast-t14
+    cast-root
+    root-requires
     returns)

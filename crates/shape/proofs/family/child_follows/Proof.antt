@@ -28,8 +28,8 @@ returns-2 c =
     let up = rw (two .before .wide2 .ensures) at (two .read2 .ensures) in
     decides-false (λ k. follows _ _ _ inside (one .read .ensures) up refl k .split (c .if2 .taken))
 
-vertex-at-requires : tie.Need-vertex-at-requires
-vertex-at-requires c κs = search needs
+across-requires : tie.Need-across-requires
+across-requires c κs = search needs
 
 wide-requires-3 : tie.Need-wide-requires-3
 wide-requires-3 c κs = search needs
@@ -46,7 +46,7 @@ returns-3 c =
     let one = two .before .before .before .before in
     let inside = one .before .before .before .pre .1 in
     let up = rw (two .before .wide2 .ensures) at (two .read2 .ensures) in
-    let tag = c .before .before .before .before .vertex-at .ensures in
+    let tag = c .before .before .before .before .across .ensures in
     let same = rw (c .before .before .before .wide3 .ensures, c .before .before .edge .ensures) at (c .before .records-edge .ensures) in
     decides-false (λ k. refused same (c .if3 .taken) (follows _ _ _ inside (one .read .ensures) up tag k .middle))
 
@@ -56,7 +56,7 @@ returns-4 c =
     let one = two .before .before .before .before in
     let inside = one .before .before .before .pre .1 in
     let up = rw (two .before .wide2 .ensures) at (two .read2 .ensures) in
-    let tag = c .before .before .before .before .before .before .vertex-at .ensures in
+    let tag = c .before .before .before .before .before .before .across .ensures in
     decides-false (λ k. omega (arith, follows _ _ _ inside (one .read .ensures) up tag k .shallow))
 
 is-child-requires : tie.Need-is-child-requires
@@ -70,7 +70,7 @@ returns-5 c =
     let one = two .before .before .before .before in
     let inside = one .before .before .before .pre .1 in
     let up = rw (two .before .wide2 .ensures) at (two .read2 .ensures) in
-    let tag = c .before .before .before .before .before .before .before .vertex-at .ensures in
+    let tag = c .before .before .before .before .before .before .before .across .ensures in
     let found = c .before .before .before .before in
     let same = rw (found .before .before .wide3 .ensures, found .before .edge .ensures) at (found .records-edge .ensures) in
     decides-as (c .is-child .ensures)
@@ -89,7 +89,7 @@ child-follows-spec =
     wide-requires-2
     read-requires-2
     returns-2
-    vertex-at-requires
+    across-requires
     wide-requires-3
     edge-requires
     records-edge-requires

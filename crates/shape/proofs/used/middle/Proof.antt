@@ -12,14 +12,14 @@ wide-requires c κs = search needs
 read-requires-2 : tie.Need-read-requires-2
 read-requires-2 c κs = search needs
 
-vertex-at-requires : tie.Need-vertex-at-requires
-vertex-at-requires c κs = search needs
+across-requires : tie.Need-across-requires
+across-requires c κs = search needs
 
 wide-requires-2 : tie.Need-wide-requires-2
 wide-requires-2 c κs = search needs
 
 returns : tie.Need-returns
-returns c = middle-is _ _ (c .before .before .before .before .read .ensures) (c .before .before .before .wide .ensures) (c .before .before .read2 .ensures) (c .before .vertex-at .ensures) (c .wide2 .ensures)
+returns c = middle-is _ _ (c .before .before .before .before .read .ensures) (c .before .before .before .wide .ensures) (c .before .before .read2 .ensures) (c .before .across .ensures) (c .wide2 .ensures)
 
 pub middle-spec : {M : Type 1} → statement M
 middle-spec =
@@ -28,6 +28,6 @@ middle-spec =
     read-requires
     wide-requires
     read-requires-2
-    vertex-at-requires
+    across-requires
     wide-requires-2
     returns)

@@ -9,7 +9,7 @@ returns-2 : tie.Need-returns-2
 returns-2 c = rw (tag-two (c .if2 .taken))
 
 returns-3 : tie.Need-returns-3
-returns-3 c = rw (tag-three (c .before .before .if1 .left) (c .if2 .left))
+returns-3 c = rw (tag-three (c .before .if1 .left) (c .if2 .left))
 
 pub across-spec : {M : Type 1} → statement M
 across-spec = tie.close (tie.spec returns returns-2 returns-3)

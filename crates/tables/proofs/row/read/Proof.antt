@@ -1,4 +1,4 @@
-use mathlib.Core.Path.{sym}
+use mathlib.Core.Path.{sym, _∙_}
 use Rattle.tables.proofs.laws.Table.{at-held, at-past}
 use Rattle.tables.proofs.laws.Rows.{rows}
 use borrow.Author.Needs.{needs}
@@ -77,11 +77,14 @@ mul-t35 c = search needs
 shared-slice-read-t37 : tie.Need-shared-slice-read-t37
 shared-slice-read-t37 c = search needs
 
+unused-requires : tie.Need-unused-requires
+unused-requires c κs = search needs
+
 returns : tie.Need-returns
 returns c = sym (at-held rows _ _ (c .before .before .before .before .before .before .before .before .if1 .taken))
 
 returns-2 : tie.Need-returns-2
-returns-2 c = sym (at-past rows _ _ (c .if1 .left))
+returns-2 c = c .unused .ensures ∙ sym (at-past rows _ _ (c .before .if1 .left))
 
 pub read-spec : {M : Type 1} → statement M
 read-spec =
@@ -112,4 +115,5 @@ read-spec =
     mul-t35
     shared-slice-read-t37
     returns
+    unused-requires
     returns-2)

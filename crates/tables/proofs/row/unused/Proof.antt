@@ -1,0 +1,9 @@
+use mathlib.Core.Path.{refl}
+use Rattle.tables.proofs.row.unused.Statement.{statement}
+use Rattle.tables.proofs.row.unused.Tie as tie
+
+returns : tie.Need-returns
+returns c = refl
+
+pub unused-spec : {M : Type 1} → statement M
+unused-spec = tie.close (tie.spec returns)
