@@ -22,7 +22,7 @@ pub record Finishes (p : List Float) (r : List ℕ) (c d : Counts) (o : Refined)
 
 pub record Closable (p : List Float) (r w s : List ℕ) (c : Counts) (marks : List ℕ) : Type 0 where
   pub sound : Sound (lent p r w) c
-  pub fresh : Headless s
+  pub fresh : Headless w s
   pub passed : onMarks w (c .rows) marks ≡ Passed
 
 -- the answer and the tables as `OnRoom` has them, however the tables are shown to be sound
@@ -31,7 +31,7 @@ pub record Closes (t : Lent) (c : Counts) (marks : List ℕ) (o : Refined) (t' :
 
 pub record Callable (p : List Float) (r w s : List ℕ) (c : Counts) : Type 0 where
   pub sound : Sound (lent p r w) c
-  pub fresh : Headless s
+  pub fresh : Headless w s
 
 pub record Calls (t : Lent) (c : Counts) (marks : List ℕ) (o : Refined) (t' : Lent) : Type 0 where
   pub judged : (s : Sound t c) → OnMarks RunAll t c (s .initials) (s .roots) marks o t'

@@ -14,10 +14,12 @@ mod refining;
 mod step;
 
 use crate::answer::Refined;
-use crate::index::SCRATCH;
 use tables::layout::Counts;
 ghost use Rattle.sound.specs.Check.{lent};
 ghost use Rattle.closure.specs.Refine.{Refines};
+
+// Enough for any element table: heads and uses of 20,000 vertices, and five numbers for each of 100,000 rows.
+const SCRATCH: usize = 540000;
 
 // Refines all marked leaves with every neighbour that they force, or refuses and changes nothing.
 pub fn refine(

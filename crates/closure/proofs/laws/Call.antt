@@ -35,7 +35,7 @@ use Rattle.closure.specs.declared.answer.Refined.{Refined}
 use Rattle.closure.specs.declared.answer.Refined.the-variants.{Done, Refused}
 use Rattle.closure.specs.declared.step.Step.{Step}
 use Rattle.closure.specs.declared.step.Step.the-variants as step
-use Rattle.closure.specs.State.{rowsOf, recordsOf, seen, scratchLength, State}
+use Rattle.closure.specs.State.{rowsOf, recordsOf, seen, scratchFor, State}
 use Rattle.closure.specs.Build.{Indexable}
 use Rattle.closure.specs.Marking.{AllDue, Ended, Failed, Marks}
 use Rattle.closure.specs.Refine.{absent, reported, Accepts, outgrown, fits, deep, shallow, missing, present, Refines, unsound, sound}
@@ -260,7 +260,12 @@ module _ {t : Lent} {c : Counts} {marks : List ℕ} {b : Bool} (d : Decides (Sou
   pub refine-sound : not b ≡ false → {a : Refined} {t' : Lent} → Calls t c marks a t' → Refines t c marks a t'
   refine-sound e g = let s = d .yes (not-false b e) in sound s (g .judged s)
 
-pub refine-callable : {p : List Float} {r w s : List ℕ} {c : Counts} {b : Bool} → Decides (Sound (lent p r w) c) b × Cleared scratchLength s → not b ≡ false → Callable p r w s c
-refine-callable {b = b} d e = record { sound = d .0 .yes (not-false b e); fresh = record { size = d .1 .size; heads = λ v h. d .1 .zero v } }
+-- no table has room for more than 100,000 rows
+scratch-most : (w : ℕ) → scratchFor w ≤ 540000
+unfolding scratchFor
+scratch-most w = omega arith
+
+pub refine-callable : {p : List Float} {r w s : List ℕ} {c : Counts} {b : Bool} → Decides (Sound (lent p r w) c) b × Cleared 540000 s → not b ≡ false → Callable p r w s c
+refine-callable {w = w} {b = b} d e = record { sound = d .0 .yes (not-false b e); fresh = record { size = omega (arith, scratch-most (length w), d .1 .size); heads = λ v h. d .1 .zero v } }
 
 pub ruleset wholly = (refine-unsound, refine-sound, refine-callable)
