@@ -4,16 +4,16 @@ use mathlib.Core.List.{List}
 use Prim.Native.Nat.{ℕ, _*_, _/_, _≤_, _<_}
 use lib.ListN.{length, getD}
 use Rattle.tables.specs.Layout.{rowWidth, noRow, rowAt}
-use Rattle.closure.specs.State.{corner, linksAt, scratchLength}
+use Rattle.closure.specs.State.{corner, linksAt, scratchFor}
 
--- no vertex has a slot yet
-pub record Headless (s : List ℕ) : Type 0 where
-  pub size : length s ≡ scratchLength
+-- the scratch table is enough, and no vertex has a slot yet
+pub record Headless (w s : List ℕ) : Type 0 where
+  pub size : scratchFor (length w) ≤ length s
   pub heads : (v : ℕ) → v < linksAt → getD s v 0 ≡ 0
 
 -- the first n rows can be put into the index
 pub record Indexable (w s : List ℕ) (n : ℕ) : Type 0 where
-  pub fresh : Headless s
+  pub fresh : Headless w s
   pub few : n ≤ 100000
   pub fits : n ≤ length w / rowWidth
   pub low : (k : ℕ) → k < 4 * n → corner w k < linksAt

@@ -71,7 +71,7 @@ pub record Marks (r w : List ℕ) (c : Counts) (room : Size) (marks : List ℕ) 
   pub full : (d : Counts) → o ≡ Full d → Failed (seen r w c) marks room r' w' s' d
 
 -- the first j marks are done
-pub record Marking (r₀ w₀ : List ℕ) (c : Counts) (room : Size) (marks : List ℕ) (r w s : List ℕ) (d : Counts) (j : ℕ) : Type 0 where
+pub record Marking (r₀ w₀ s₀ : List ℕ) (c : Counts) (room : Size) (marks : List ℕ) (r w s : List ℕ) (d : Counts) (j : ℕ) : Type 0 where
   pub within : j ≤ length marks
   pub due : AllDue r w s d room marks
   pub runs : (U : Skeleton) → RunAll (seen r w d) (drop j marks) U → RunAll (seen r₀ w₀ c) marks U
@@ -79,3 +79,4 @@ pub record Marking (r₀ w₀ : List ℕ) (c : Counts) (room : Size) (marks : Li
   pub reach : Reach (seen r₀ w₀ c) (seen r w d)
   pub records-size : length r ≡ length r₀
   pub rows-size : length w ≡ length w₀
+  pub scratch-size : length s ≡ length s₀

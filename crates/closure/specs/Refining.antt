@@ -96,13 +96,14 @@ pub record Towards (room : Size) (S : Skeleton) (q : ℕ) (T : Skeleton) : Type 
   pub stuck : Stuck room T q → Stuck room S q
 
 -- the loop that clears the patch of q's edge is at the tables r, w and s
-pub record Clearing (r₀ w₀ : List ℕ) (c : Counts) (room : Size) (q : ℕ) (r w s : List ℕ) (d : Counts) : Type 0 where
+pub record Clearing (r₀ w₀ s₀ : List ℕ) (c : Counts) (room : Size) (q : ℕ) (r w s : List ℕ) (d : Counts) : Type 0 where
   pub sure : Sure r w s d room q
   pub towards : Towards room (seen r₀ w₀ c) q (seen r w d)
   pub reach : Reach (seen r₀ w₀ c) (seen r w d)
   pub rank : rankIn (seen r w d) q ≡ rankIn (seen r₀ w₀ c) q
   pub records-size : length r ≡ length r₀
   pub rows-size : length w ≡ length w₀
+  pub scratch-size : length s ≡ length s₀
 
 -- no leaf blocks the patch any more
 pub record Cleared (S : Skeleton) (q : ℕ) (room : Size) (r w s : List ℕ) (d : Counts) (k : ℕ) : Type 0 where

@@ -1,9 +1,9 @@
 -- The tables while closure works on them, and what its parts do to them. Nothing here is promised to callers.
 use mathlib.Core.Path.{_≡_}
-use mathlib.Core.Bool.{cond}
+use mathlib.Core.Bool.{_&&_, cond}
 use mathlib.Core.List.{List}
-use Prim.Native.Nat.{ℕ, _+_, _-_, _*_, _/_, _%_, _≤_, _<_}
-use lib.Dec.{ltb}
+use Prim.Native.Nat.{ℕ, _+_, _-_, _*_, _/_, _%_, _≤_, _<_, min}
+use lib.Dec.{ltb, leb}
 use lib.ListN.{length, getD, set}
 use Rattle.split.specs.declared.row.Row.{Row}
 use Rattle.split.specs.declared.row.Ends.{Ends}
@@ -32,19 +32,14 @@ seen r w c = record { records = recordsOf r (c .vertices); rows = rowsOf w (c .r
 abbrev pub corner : List ℕ → ℕ → ℕ
 corner w s = at (cornersOf (rowAt w (s / 4))) (s % 4)
 
--- ---- the scratch table: heads, links, uses, and at its end the patch
+-- ---- the scratch table: heads, links, the patch, and at its end the uses. Its length is the caller's
 
 abbrev pub linksAt : ℕ
 linksAt = 20000
 
-abbrev pub usesAt : ℕ
-usesAt = 420000
-
-abbrev pub patchAt : ℕ
-patchAt = 440000
-
-abbrev pub scratchLength : ℕ
-scratchLength = 540000
+-- what is enough for an element table of w numbers: heads and uses, and for each row that it has room for four links and a place in a patch
+unfoldable pub scratchFor : ℕ → ℕ
+scratchFor w = 40000 + 5 * min 100000 (w / rowWidth)
 
 -- four corners of row n appended to the index
 unfoldable pub cornersPushed : List ℕ → ℕ → Row → List ℕ
@@ -53,9 +48,13 @@ cornersPushed s n r = pushed (pushed (pushed (pushed s linksAt (4 * n) (r .v0)) 
 abbrev pub bumped : ℕ → ℕ
 bumped u = cond (ltb u 4294967295) (u + 1) u
 
+-- the place of vertex v among the last numbers of a table of n, or n where there is no such place
+unfoldable pub useAt : ℕ → ℕ → ℕ
+useAt n v = cond (ltb v linksAt && leb linksAt n) (n - linksAt + v) n
+
 -- one use of vertex v more. Nothing hangs on these counts but which end of an edge is walked
 unfoldable pub counted : List ℕ → ℕ → List ℕ
-counted s v = cond (ltb v linksAt) (set s (usesAt + v) (bumped (getD s (usesAt + v) 0))) s
+counted s v = set s (useAt (length s) v) (bumped (getD s (useAt (length s) v) 0))
 
 unfoldable pub rowCounted : List ℕ → Row → List ℕ
 rowCounted s r = counted (counted (counted (counted s (r .v0)) (r .v1)) (r .v2)) (r .v3)
@@ -64,13 +63,13 @@ rowCounted s r = counted (counted (counted (counted s (r .v0)) (r .v1)) (r .v2))
 unfoldable pub rowPushed : List ℕ → ℕ → Row → List ℕ
 rowPushed s n r = rowCounted (cornersPushed s n r) r
 
--- the last k numbers of the scratch table: a patch, in ascending row order
+-- the last k numbers before the uses: a patch, in ascending row order
 abbrev pub patchIn : List ℕ → ℕ → List ℕ
-patchIn s k = upTo (λ (j : ℕ). getD s (scratchLength - k + j) 0) k
+patchIn s k = upTo (λ (j : ℕ). getD s (length s - (linksAt + k) + j) 0) k
 
--- the first n rows are in the index, and zeros stand after them
+-- the scratch table is enough, the first n rows are in the index, and zeros stand after them
 pub record State (w s : List ℕ) (n : ℕ) : Type 0 where
-  pub size : length s ≡ scratchLength
+  pub size : scratchFor (length w) ≤ length s
   pub index : Indexed (corner w) (4 * n) linksAt s
   pub few : n ≤ 100000
   pub fits : n ≤ length w / rowWidth
@@ -85,12 +84,13 @@ pub record Splittable (w s : List ℕ) (n leaf v : ℕ) : Type 0 where
   pub few : n + 2 ≤ 100000
   pub low : v < linksAt
 
--- one leaf was split
+-- one leaf was split, and what stands between links and uses is as it was
 pub record Halves (w s : List ℕ) (n leaf v : ℕ) (w' s' : List ℕ) : Type 0 where
   pub size : length w' ≡ length w
   pub state : State w' s' (n + 2)
   pub rows : rowsOf w' (n + 2) ≡ cut v (rowsOf w n) leaf
-  pub patch : (j : ℕ) → patchAt ≤ j → getD s' j 0 ≡ getD s j 0
+  pub scratch-size : length s' ≡ length s
+  pub patch : (j : ℕ) → linksAt + 4 * (n + 2) ≤ j → linksAt + j < length s → getD s' j 0 ≡ getD s j 0
 
 -- the k rows that the scratch table lists may be split at the vertex v
 pub record Patchable (w s : List ℕ) (n k v : ℕ) : Type 0 where
@@ -98,7 +98,8 @@ pub record Patchable (w s : List ℕ) (n k v : ℕ) : Type 0 where
   pub room : n + 2 * k ≤ length w / rowWidth
   pub few : n + 2 * k ≤ 100000
   pub low : v < linksAt
-  pub listed : (j : ℕ) → j < k → getD s (scratchLength - k + j) 0 < n
+  pub size : linksAt + k ≤ length s
+  pub listed : (j : ℕ) → j < k → getD s (length s - (linksAt + k) + j) 0 < n
 
 -- they were split
 pub record Parted (w s : List ℕ) (n k v : ℕ) (w' s' : List ℕ) : Type 0 where
@@ -126,8 +127,8 @@ pub record Gathers (w : List ℕ) (n : ℕ) (e : Ends) (k : ℕ) (s' : List ℕ)
   pub patch : patchIn s' k ≡ holders (rowsOf w n) e
   pub size : k ≤ n
 
--- the k numbers at the end of the scratch table are rows below n
+-- the k numbers before the uses are rows below n
 pub record Listed (s : List ℕ) (n k : ℕ) : Type 0 where
-  pub size : length s ≡ scratchLength
+  pub size : linksAt + k ≤ length s
   pub few : k ≤ 100000
-  pub listed : (j : ℕ) → j < k → getD s (scratchLength - k + j) 0 < n
+  pub listed : (j : ℕ) → j < k → getD s (length s - (linksAt + k) + j) 0 < n

@@ -1,5 +1,5 @@
 // The leaf that is refined first: of the leaves that the scratch table lists, the first whose own edge is another one (document 01, "Closure").
-use crate::index::SCRATCH;
+use crate::index::LINKS;
 use chain::wide;
 use intake::answer::Found;
 use split::row::Ends;
@@ -30,7 +30,7 @@ pub fn first_other(rows: &[u32], scratch: &[u32], n: usize, k: usize, e: Ends) -
     requires { ⌜ Listed (now scratch) n k ⌝ }
     ensures { λ f. ⌜ f ≡ otherIn (rowsOf (now (rows .entry)) n) e (patchIn (now (scratch .entry)) k) ⌝ }
 {
-    let from = SCRATCH - k;
+    let from = scratch.len() - (LINKS + k);
     let mut j = 0usize;
     while j < k {
         let r = wide(scratch[from + j]);

@@ -1,6 +1,5 @@
 // The patch of an edge: the leaves holding both its ends, found through the corners of one end (document 01, "Closure").
 use crate::index::LINKS;
-use crate::index::SCRATCH;
 use chain::wide;
 use split::row::Ends;
 use split::row::Row;
@@ -10,7 +9,7 @@ ghost use Prim.Native.Nat.{_+_, _-_, _<_};
 ghost use lib.ListN.{length, set};
 ghost use Rattle.tables.specs.Layout.{rowAt};
 ghost use Rattle.run.specs.Run as run;
-ghost use Rattle.closure.specs.State.{scratchLength, Gatherable, Gathers};
+ghost use Rattle.closure.specs.State.{linksAt, Gatherable, Gathers};
 
 fn has(r: Row, v: u32) -> bool
     ensures { λ b. ⌜ b ≡ run.has r v ⌝ }
@@ -43,16 +42,17 @@ fn holding(rows: &[u32], k: usize, e: Ends) -> bool
 
 // Lists row q before the k rows already listed, where it is a leaf holding both ends of e, and answers how many are listed then.
 fn keep(rows: &[u32], scratch: &mut [u32], q: usize, e: Ends, k: usize) -> usize
-    requires { ⌜ length (now scratch) ≡ scratchLength ⌝ }
+    requires { ⌜ linksAt + k < length (now scratch) ⌝ }
     requires { ⌜ k < 100000 ⌝ }
     requires { ⌜ q < 100000 ⌝ }
     ensures { λ j. ⌜ j ≡ cond (run.holding e (rowAt (now (rows .entry)) q)) (k + 1) k ⌝ }
-    ensures { λ _. ⌜ now (scratch .exit) ≡ cond (run.holding e (rowAt (now (rows .entry)) q)) (set (now (scratch .entry)) (scratchLength - (k + 1)) q) (now (scratch .entry)) ⌝ }
+    ensures { λ _. ⌜ now (scratch .exit) ≡ cond (run.holding e (rowAt (now (rows .entry)) q)) (set (now (scratch .entry)) (length (now (scratch .entry)) - (linksAt + (k + 1))) q) (now (scratch .entry)) ⌝ }
 {
     if !holding(rows, q, e) {
         return k;
     }
-    scratch[SCRATCH - (k + 1)] = q as u32;
+    let at = scratch.len() - (LINKS + (k + 1));
+    scratch[at] = q as u32;
     k + 1
 }
 

@@ -1,16 +1,12 @@
-// The index of corner slots: place 4 n + q has the key vertex q of row n. In the scratch table stand the heads, the links, how often each vertex is used and, at its end, the patch that is being looked at.
+// The index of corner slots: place 4 n + q has the key vertex q of row n. In the scratch table stand the heads and the links; at its end, whatever its length, how often each vertex is used; and before these, growing downwards, the patch that is being looked at.
 use chain::wide;
 use split::row::Ends;
 use split::row::Row;
 ghost use mathlib.Core.Path.{_≡_};
 ghost use Prim.Native.Nat.{_<_};
-ghost use Rattle.closure.specs.State.{cornersPushed, bumped, counted, rowCounted, rowPushed, EndOf};
+ghost use Rattle.closure.specs.State.{cornersPushed, bumped, useAt, counted, rowCounted, rowPushed, EndOf};
 
 pub const LINKS: usize = 20000;
-
-pub const USES: usize = 420000;
-
-pub const SCRATCH: usize = 540000;
 
 // Appends the four corners of row n.
 fn push_corners(scratch: &mut [u32], n: usize, r: Row)
@@ -30,15 +26,25 @@ fn bump(u: u32) -> u32
     if u < 4294967295 { u + 1 } else { u }
 }
 
+// Where the uses of vertex v are counted in a table of n numbers, or n where it has no such place.
+fn use_at(n: usize, v: u32) -> usize
+    ensures { λ r. ⌜ r ≡ useAt n v ⌝ }
+{
+    let k = wide(v);
+    if LINKS <= k {
+        return n;
+    }
+    if n < LINKS {
+        return n;
+    }
+    n - LINKS + k
+}
+
 // One use of vertex v more.
 fn count(scratch: &mut [u32], v: u32)
     ensures { λ _. ⌜ now (scratch .exit) ≡ counted (now (scratch .entry)) v ⌝ }
 {
-    let k = wide(v);
-    if LINKS <= k {
-        return;
-    }
-    let at = USES + k;
+    let at = use_at(scratch.len(), v);
     if at < scratch.len() {
         scratch[at] = bump(scratch[at]);
     }
@@ -63,7 +69,7 @@ pub fn index_row(scratch: &mut [u32], n: usize, r: Row)
 }
 
 fn uses(scratch: &[u32], v: u32) -> u32 {
-    let at = USES + wide(v);
+    let at = use_at(scratch.len(), v);
     if at < scratch.len() {
         return scratch[at];
     }

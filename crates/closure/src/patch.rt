@@ -1,5 +1,5 @@
 // The split of a patch: all leaves that the scratch table lists, in ascending row order (document 01, "Closure").
-use crate::index::SCRATCH;
+use crate::index::LINKS;
 use crate::leaf::split_leaf;
 ghost use Rattle.closure.specs.State.{Patchable, Parted};
 
@@ -8,7 +8,7 @@ pub fn split_patch(rows: &mut [u32], scratch: &mut [u32], n: usize, k: usize, v:
     requires { ⌜ Patchable (now rows) (now scratch) n k v ⌝ }
     ensures { λ _. ⌜ Parted (now (rows .entry)) (now (scratch .entry)) n k v (now (rows .exit)) (now (scratch .exit)) ⌝ }
 {
-    let from = SCRATCH - k;
+    let from = scratch.len() - (LINKS + k);
     let mut j = 0usize;
     while j < k {
         let leaf = scratch[from + j];

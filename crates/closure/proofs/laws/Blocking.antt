@@ -6,7 +6,7 @@ use Prim.Native.Nat.{ℕ, suc, _+_, _-_, _≤_, _<_}
 use native.Mathlib.Omega.{arith}
 use native.Mathlib.Numerals.{add-one}
 use lib.Dec.{eqb}
-use lib.ListN.{getD, drop}
+use lib.ListN.{length, getD, drop}
 use borrow.Author.Tests.{eq-eqb, ne-eqb, not-true, not-false}
 use Rattle.split.specs.declared.row.Ends.{Ends}
 use Rattle.split.specs.Row.{edgeOf}
@@ -14,7 +14,7 @@ use Rattle.intake.specs.declared.answer.Found.the-variants.{At, Nowhere}
 use Rattle.tables.specs.Layout.{noRow, rowAt}
 use Rattle.tables.proofs.laws.View.{up-to-at}
 use Rattle.run.specs.Run.{sameEnds, otherIn}
-use Rattle.closure.specs.State.{rowsOf, scratchLength, patchIn, Listed}
+use Rattle.closure.specs.State.{rowsOf, linksAt, patchIn, Listed}
 use Rattle.closure.proofs.laws.Patch.{patch-at, patch-end}
 
 pub ends-differ : (e f : Ends) → (e .small ≡ f .small → ⊥) → false ≡ sameEnds e f
@@ -38,7 +38,7 @@ module _ {w s : List ℕ} {n k : ℕ} (e : Ends) (l : Listed s n k) where
   pub looked-start : Looked w s n k e 0
   looked-start = record { within = omega arith; rest = refl }
 
-  module _ {j r : ℕ} {b : Bool} (x : Looked w s n k e j) (h : j < k) (is : r ≡ getD s (scratchLength - k + j) 0) (test : b ≡ sameEnds (edgeOf (rowAt w r)) e) where
+  module _ {j r : ℕ} {b : Bool} (x : Looked w s n k e j) (h : j < k) (is : r ≡ getD s (length s - (linksAt + k) + j) 0) (test : b ≡ sameEnds (edgeOf (rowAt w r)) e) where
     next : drop j (patchIn s k) ≡ r ∷ drop (suc j) (patchIn s k)
     next = patch-at s k j h ∙ rw (← is)
 

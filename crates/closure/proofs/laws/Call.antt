@@ -36,7 +36,7 @@ use Rattle.closure.specs.declared.answer.Refined.{Refined}
 use Rattle.closure.specs.declared.answer.Refined.the-variants.{Done, Refused}
 use Rattle.closure.specs.declared.step.Step.{Step}
 use Rattle.closure.specs.declared.step.Step.the-variants as step
-use Rattle.closure.specs.State.{rowsOf, recordsOf, seen, scratchLength, State}
+use Rattle.closure.specs.State.{rowsOf, recordsOf, seen, scratchFor, State}
 use Rattle.closure.specs.Build.{Indexable}
 use Rattle.closure.specs.Marking.{AllDue, Ended, Failed, Marks}
 use Rattle.closure.specs.Refine.{absent, reported, Accepts, outgrown, fits, deep, shallow, missing, present, Refines, unsound, sound}
@@ -254,14 +254,28 @@ pub ruleset calling = (call-refused, call-closable, call-closed)
 
 -- ---- the whole
 
-module _ {t : Lent} {c : Counts} {marks : List ℕ} {b : Bool} (d : Decides (Sound t c) b) where
-  pub refine-unsound : not b ≡ true → Refines t c marks (Refused 9 0) t
-  refine-unsound e = unsound (d .no (not-true b e)) (refuses refl refl)
+module _ {p : List Float} {r w s₀ s : List ℕ} {c : Counts} (x : Spacious (length w) (length s₀)) {b : Bool} (d : Decides (SoundIn (length s₀) (lent p r w) c) b × (s ≡ replicate (length s₀) 0)) where
+  -- sound tables have no more rows than there is room for, and then the memory is enough for the check
+  enough : Sound (lent p r w) c → SoundIn (length s₀) (lent p r w) c
+  unfolding roomOf scratchFor
+  enough y = record { enough = omega (arith, x .closure, x .check, y .fitting .rows-fit); sound = y }
 
-  pub refine-sound : not b ≡ false → {a : Refined} {t' : Lent} → Calls t c marks a t' → Refines t c marks a t'
-  refine-sound e g = let s = d .yes (not-false b e) in sound s (g .judged s)
+  pub refine-unsound : {marks : List ℕ} → not b ≡ true → Refines (lent p r w) c marks (Refused 9 0) (lent p r w)
+  refine-unsound e = unsound (λ y. d .0 .no (not-true b e) (enough y)) (refuses refl refl)
 
-pub refine-callable : {p : List Float} {r w s : List ℕ} {c : Counts} {b : Bool} → Decides (Sound (lent p r w) c) b × Cleared scratchLength s → not b ≡ false → Callable p r w s c
-refine-callable {b = b} d e = record { sound = d .0 .yes (not-false b e); fresh = record { size = d .1 .size; heads = λ v h. d .1 .zero v } }
+  pub refine-sound : {marks : List ℕ} → not b ≡ false → {a : Refined} {t' : Lent} → Calls (lent p r w) c marks a t' → Refines (lent p r w) c marks a t'
+  refine-sound e g = let y = d .0 .yes (not-false b e) .sound in sound y (g .judged y)
+
+  pub refine-callable : not b ≡ false → Callable p r w s c
+  refine-callable e = record { sound = d .0 .yes (not-false b e) .sound; fresh = record { size = rw (d .1, length-replicate {A = ℕ} (length s₀) 0) (x .closure); heads = λ v h. rw (d .1) (zero-at (length s₀) v) } }
 
 pub ruleset wholly = (refine-unsound, refine-sound, refine-callable)
+
+-- zeros over any length, so that none are written out
+pub spacious-small : (w n : ℕ) → n ≡ 100000 → w / rowWidth ≤ 12000 → Spacious w (length (replicate {A = ℕ} n 0))
+unfolding scratchFor
+spacious-small w n e h = rw (length-replicate {A = ℕ} n 0) (record { closure = omega arith; check = omega arith })
+
+pub spacious-large : (w n : ℕ) → n ≡ 540000 → Spacious w (length (replicate {A = ℕ} n 0))
+unfolding scratchFor
+spacious-large w n e = rw (length-replicate {A = ℕ} n 0) (record { closure = omega arith; check = omega arith })

@@ -64,10 +64,10 @@ tables-scratch t x = record {
   blank = t .blank;
 }
 
-pub clearing-start : {r w s : List ℕ} {c : Counts} {room : Size} {q : ℕ} → Sure r w s c room q → Clearing r w c room q r w s c
-clearing-start x = record { sure = x; towards = record { runs = λ U p. p; stuck = λ p. p }; reach = ready.here refl; rank = refl; records-size = refl; rows-size = refl }
+pub clearing-start : {r w s : List ℕ} {c : Counts} {room : Size} {q : ℕ} → Sure r w s c room q → Clearing r w s c room q r w s c
+clearing-start x = record { sure = x; towards = record { runs = λ U p. p; stuck = λ p. p }; reach = ready.here refl; rank = refl; records-size = refl; rows-size = refl; scratch-size = refl }
 
-module _ {r₀ w₀ r w s : List ℕ} {c : Counts} {room : Size} {d : Counts} {q : ℕ} (x : Clearing r₀ w₀ c room q r w s d) where
+module _ {r₀ w₀ s₀ r w s : List ℕ} {c : Counts} {room : Size} {d : Counts} {q : ℕ} (x : Clearing r₀ w₀ s₀ c room q r w s d) where
   size : length (rowsOf w (d .rows)) ≡ d .rows
   size = length-up-to (rowAt w) (d .rows)
 
@@ -110,8 +110,8 @@ module _ {r₀ w₀ r w s : List ℕ} {c : Counts} {room : Size} {d : Counts} {q
           few : length (seen r' w' y .records) < 4294967295
           few = let t = f .done y z .tables in omega (arith, length-up-to (recordAt r') (y .vertices), t .vertices-in, t .few-vertices)
 
-          pub clearing-next : length r' ≡ length r → length w' ≡ length w → Clearing r₀ w₀ c room q r' w' s'' y
-          clearing-next er ew =
+          pub clearing-next : length r' ≡ length r → length w' ≡ length w → length s'' ≡ length s' → length s' ≡ length s → Clearing r₀ w₀ s₀ c room q r' w' s'' y
+          clearing-next er ew es el =
               let j = f .done y z in
               let t = j .tables in
               record {
@@ -131,6 +131,7 @@ module _ {r₀ w₀ r w s : List ℕ} {c : Counts} {room : Size} {d : Counts} {q
                 rank = rank-stays (x .sure .ready) (j .reach) q (x .sure .ripe .there) ∙ x .rank;
                 records-size = er ∙ x .records-size;
                 rows-size = ew ∙ x .rows-size;
+                scratch-size = es ∙ el ∙ x .scratch-size;
               }
 
           pub clearing-less : room .vertices - y .vertices < room .vertices - d .vertices
@@ -143,8 +144,8 @@ module _ {r₀ w₀ r w s : List ℕ} {c : Counts} {room : Size} {d : Counts} {q
   pub rows-sized : {n : ℕ} → n ≡ length w → n ≡ length w₀
   rows-sized e = e ∙ x .rows-size
 
-pub scratch-sized : {r₀ w₀ s₀ w s : List ℕ} {c : Counts} {room : Size} {q m k : ℕ} {o : Look} → Sure r₀ w₀ s₀ c room q → Looks w m k o s → {n : ℕ} → n ≡ length s → n ≡ length s₀
-scratch-sized x l e = e ∙ l .state .size ∙ sym (x .tables .state .size)
+  pub scratch-sized : {m n : ℕ} → n ≡ m → m ≡ length s → n ≡ length s₀
+  scratch-sized e f = e ∙ f ∙ x .scratch-size
 
 -- the measure: twice the rank, and one more for refining
 pub half-falls : {t a b : ℕ} → 2 * a ≡ t → b < a → 2 * b + 1 < t

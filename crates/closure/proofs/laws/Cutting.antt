@@ -26,10 +26,11 @@ use Rattle.run.proofs.laws.Holders.{holders-only}
 use Rattle.run.specs.Ready as ready
 use Rattle.run.proofs.laws.Reach.{reach-run}
 use Rattle.closure.specs.declared.step.Step.the-variants.{Done, Full}
-use Rattle.closure.specs.State.{rowsOf, recordsOf, seen, scratchLength, patchIn, State, Patchable, Parted}
+use Rattle.closure.specs.State.{rowsOf, recordsOf, seen, linksAt, patchIn, State, Patchable, Parted}
 use Rattle.closure.specs.Refining.{Tables, Ran, Jammed, Refines, fitsIn, Patched, Cuttable}
 use Rattle.sound.proofs.laws.Searches.{and-both}
 use Rattle.closure.proofs.laws.Answers.{done-counts, full-counts, done-full}
+use Rattle.closure.proofs.laws.Index.{state-holds}
 use Rattle.closure.proofs.laws.Rows.{record-other, records-next}
 
 -- ---- the answers
@@ -69,12 +70,12 @@ cutAll-length v [] W = omega arith
 cutAll-length v (s ∷ ss) W = cutAll-length v ss (cut v W s) ∙ omega (arith, cut-length v W s)
 
 patch-length : (s : List ℕ) (k : ℕ) → length (patchIn s k) ≡ k
-patch-length s k = length-up-to (λ (i : ℕ). getD s (scratchLength - k + i) 0) k
+patch-length s k = length-up-to (λ (i : ℕ). getD s (length s - (linksAt + k) + i) 0) k
 
-pub patched-listed : {w s : List ℕ} {n q k : ℕ} → Patched w s n q k → (j : ℕ) → j < k → getD s (scratchLength - k + j) 0 < n
+pub patched-listed : {w s : List ℕ} {n q k : ℕ} → Patched w s n q k → (j : ℕ) → j < k → getD s (length s - (linksAt + k) + j) 0 < n
 patched-listed {w} {s} {n} {q} {k} p j h =
     let e = edgeOf (rowAt w q) in
-    let is : getD (patchIn s k) j 0 ≡ getD s (scratchLength - k + j) 0 = up-to-at (λ (i : ℕ). getD s (scratchLength - k + i) 0) k j 0 h in
+    let is : getD (patchIn s k) j 0 ≡ getD s (length s - (linksAt + k) + j) 0 = up-to-at (λ (i : ℕ). getD s (length s - (linksAt + k) + i) 0) k j 0 h in
     let k' = subst (List·Memᴰ (getD (patchIn s k) j 0)) (p .patch) (member-at (patchIn s k) j (omega (arith, patch-length s k))) in
     omega (arith, is, holders-only (rowsOf w n) e (getD (patchIn s k) j 0) k' .there, length-up-to (rowAt w) n)
 
@@ -133,6 +134,7 @@ module _ {r w s : List ℕ} {d : Counts} {room : Size} {q k : ℕ} (x : Cuttable
           room = omega (arith, n, T .rows-fit);
           few = omega (arith, n, T .few-rows);
           low = omega (arith, v, T .few-vertices);
+          size = omega (arith, x .listed .size, state-holds (T .state));
           listed = patched-listed (x .listed);
         }
 

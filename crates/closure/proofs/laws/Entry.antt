@@ -70,7 +70,7 @@ module _ {p : List Float} {r w : List ℕ} {c : Counts} (s : Sound (lent p r w) 
   blank-rows : (k : ℕ) → c .rows ≤ k → rowAt w k ≡ noRow
   blank-rows = rows-blank w (c .rows) (s .unused .rows)
 
-  pub entry-index : {scratch : List ℕ} → Headless scratch → Indexable w scratch (c .rows)
+  pub entry-index : {scratch : List ℕ} → Headless w scratch → Indexable w scratch (c .rows)
   entry-index e = record { fresh = e; few = omega (arith, s .fitting .rows-fit, fit .few-rows); fits = omega (arith, s .fitting .rows-fit, fit .rows-fit); low = corner-low; blank = blank-rows }
 
   pub entry-tables : {scratch : List ℕ} → State w scratch (c .rows) → Tables r w scratch c room

@@ -18,27 +18,36 @@ use Rattle.tables.specs.Layout.{noRow, rowAt}
 use Rattle.tables.specs.Mesh.{upTo}
 use Rattle.tables.proofs.laws.View.{length-up-to, up-to-at}
 use Rattle.opening.proofs.laws.Indexing.{indexed-kept}
-use Rattle.closure.specs.State.{corner, rowsOf, linksAt, scratchLength, patchIn, EndOf, small, large, Gatherable, Gathers}
+use Rattle.closure.specs.State.{corner, rowsOf, linksAt, patchIn, EndOf, small, large, Gatherable, Gathers}
 use Rattle.run.specs.Skeleton.{rowIn}
 use Rattle.run.specs.Run.{holding, holdersFrom}
 use Rattle.run.proofs.laws.Holders.{Holding, holding-is, from-hit, from-miss}
-use Rattle.closure.proofs.laws.Index.{corner-row}
+use Rattle.closure.proofs.laws.Index.{corner-row, state-holds}
 
 -- ---- the list in the scratch table
 
-patch-cons : (s : List ℕ) (k q : ℕ) → length s ≡ scratchLength → k < 100000 → patchIn (set s (scratchLength - (k + 1)) q) (k + 1) ≡ q ∷ patchIn s k
-patch-cons s k q size h =
-    ext-getD 0 _ _ (length-up-to _ (k + 1) ∙ add-one k ∙ ap suc (sym (length-up-to _ k))) (λ i l. go i (omega (arith, length-up-to (λ (j : ℕ). getD (set s (scratchLength - (k + 1)) q) (scratchLength - (k + 1) + j) 0) (k + 1), l)))
-  where
-    go : (i : ℕ) → i < k + 1 → getD (patchIn (set s (scratchLength - (k + 1)) q) (k + 1)) i 0 ≡ getD (q ∷ patchIn s k) i 0
-    go zero l =
-        let first : scratchLength - (k + 1) + 0 ≡ scratchLength - (k + 1) = omega arith in
-        up-to-at (λ (j : ℕ). getD (set s (scratchLength - (k + 1)) q) (scratchLength - (k + 1) + j) 0) (k + 1) 0 0 l ∙ rw first (getD-set-same s (scratchLength - (k + 1)) q 0 (omega arith))
-    go (suc i) l =
-        let next : scratchLength - (k + 1) + suc i ≡ scratchLength - k + i = omega arith in
-        up-to-at (λ (j : ℕ). getD (set s (scratchLength - (k + 1)) q) (scratchLength - (k + 1) + j) 0) (k + 1) (suc i) 0 l
-        ∙ rw next (getD-set-other s (scratchLength - (k + 1)) (scratchLength - k + i) q 0 (λ e. omega arith))
-        ∙ sym (up-to-at (λ (j : ℕ). getD s (scratchLength - k + j) 0) k i 0 (omega arith))
+module _ (s : List ℕ) (k q : ℕ) where
+  abbrev place : ℕ
+  place = length s - (linksAt + (k + 1))
+
+  -- the numbers from that place on, once q stands there
+  abbrev put : ℕ → ℕ
+  put j = getD (set s place q) (place + j) 0
+
+  patch-cons : linksAt + k < length s → patchIn (set s place q) (k + 1) ≡ q ∷ patchIn s k
+  patch-cons h =
+      ap (λ (m : ℕ). upTo (λ (j : ℕ). getD (set s place q) (m - (linksAt + (k + 1)) + j) 0) (k + 1)) (length-set s place q)
+      ∙ ext-getD 0 _ _ (length-up-to _ (k + 1) ∙ add-one k ∙ ap suc (sym (length-up-to _ k))) (λ i l. go i (omega (arith, length-up-to put (k + 1), l)))
+    where
+      go : (i : ℕ) → i < k + 1 → getD (upTo put (k + 1)) i 0 ≡ getD (q ∷ patchIn s k) i 0
+      go zero l =
+          let first : place + 0 ≡ place = omega arith in
+          up-to-at put (k + 1) 0 0 l ∙ rw first (getD-set-same s place q 0 (omega arith))
+      go (suc i) l =
+          let next : place + suc i ≡ length s - (linksAt + k) + i = omega arith in
+          up-to-at put (k + 1) (suc i) 0 l
+          ∙ rw next (getD-set-other s place (length s - (linksAt + k) + i) q 0 (λ e. omega arith))
+          ∙ sym (up-to-at (λ (j : ℕ). getD s (length s - (linksAt + k) + j) 0) k i 0 (omega arith))
 
 -- ---- rows that are not in the patch
 
@@ -74,8 +83,8 @@ end-held (large x) h = rw x (h .large)
 abbrev pub behind : ℕ → ℕ
 behind i = (i + 3) / 4
 
-pub record Walk (w s : List ℕ) (n : ℕ) (e : Ends) (a i k : ℕ) : Type 0 where
-  pub size : length s ≡ scratchLength
+pub record Walk (w s₀ s : List ℕ) (n : ℕ) (e : Ends) (a i k : ℕ) : Type 0 where
+  pub size : length s ≡ length s₀
   pub index : Indexed (corner w) (4 * n) linksAt s
   pub below : i ≤ 4 * n
   pub here : 0 < i → corner w (i - 1) ≡ a
@@ -116,12 +125,12 @@ module _ {w s₀ : List ℕ} {n : ℕ} {e : Ends} {a : ℕ} (g : Gatherable w s�
       let next : 4 * q + suc r ≡ suc (4 * q + r) = omega arith in
       ap (latest (corner w) a) next ∙ latest-miss (corner w) a (4 * q + r) (λ c. let z = alone q p r h k (omega arith) b c in omega arith) ∙ latest-row q p r h (omega arith) k b
 
-  pub walk-start : {i x : ℕ} → x ≡ a → i ≡ getD s₀ x 0 → Walk w s₀ n e a i 0
+  pub walk-start : {i x : ℕ} → x ≡ a → i ≡ getD s₀ x 0 → Walk w s₀ s₀ n e a i 0
   unfolding holdersFrom upTo
   walk-start {i} q f =
       let head : i ≡ latest (corner w) a (4 * n) = f ∙ ap (λ (y : ℕ). getD s₀ y 0) q ∙ g .state .index .heads a (g .low) in
       record {
-        size = g .state .size;
+        size = refl;
         index = g .state .index;
         below = omega (arith, head, latest-below (corner w) a (4 * n));
         here = λ l. latest-some (corner w) a (4 * n) (i - 1) (omega (arith, head)) .1;
@@ -130,7 +139,7 @@ module _ {w s₀ : List ℕ} {n : ℕ} {e : Ends} {a : ℕ} (g : Gatherable w s�
       }
 
   -- one slot further
-  module _ {s : List ℕ} {i k : ℕ} (x : Walk w s n e a i k) (more : 0 < i) where
+  module _ {s : List ℕ} {i k : ℕ} (x : Walk w s₀ s n e a i k) (more : 0 < i) where
     abbrev q : ℕ
     q = (i - 1) / 4
 
@@ -140,22 +149,28 @@ module _ {w s₀ : List ℕ} {n : ℕ} {e : Ends} {a : ℕ} (g : Gatherable w s�
     pub walk-room : k < 100000
     walk-room = omega (arith, x .few, x .below, g .state .few)
 
+    holds : 40000 + 5 * n ≤ length s
+    holds = rw (x .size) (state-holds (g .state))
+
+    pub walk-fits : linksAt + k < length s
+    walk-fits = omega (arith, x .few, x .below, holds)
+
     -- what is listed after row q was looked at
-    listed : (b : Bool) → holding e (rowIn (rowsOf w n) q) ≡ b → patchIn (cond b (set s (scratchLength - (k + 1)) q) s) (cond b (k + 1) k) ≡ holdersFrom (rowsOf w n) e (n - q) q
+    listed : (b : Bool) → holding e (rowIn (rowsOf w n) q) ≡ b → patchIn (cond b (set s (length s - (linksAt + (k + 1))) q) s) (cond b (k + 1) k) ≡ holdersFrom (rowsOf w n) e (n - q) q
     listed b t =
         let size : n - q ≡ suc (n - behind i) = omega (arith, row-there, more) in
         let next : suc q ≡ behind i = omega (arith, more) in
         rw size (go b t next)
       where
-        go : (b : Bool) → holding e (rowIn (rowsOf w n) q) ≡ b → suc q ≡ behind i → patchIn (cond b (set s (scratchLength - (k + 1)) q) s) (cond b (k + 1) k) ≡ holdersFrom (rowsOf w n) e (suc (n - behind i)) q
-        go true t f = patch-cons s k q (x .size) walk-room ∙ ap (λ (l : List ℕ). q ∷ l) (x .patch ∙ ap (holdersFrom (rowsOf w n) e (n - behind i)) (sym f)) ∙ sym (from-hit (rowsOf w n) e (n - behind i) q t)
+        go : (b : Bool) → holding e (rowIn (rowsOf w n) q) ≡ b → suc q ≡ behind i → patchIn (cond b (set s (length s - (linksAt + (k + 1))) q) s) (cond b (k + 1) k) ≡ holdersFrom (rowsOf w n) e (suc (n - behind i)) q
+        go true t f = patch-cons s k q walk-fits ∙ ap (λ (l : List ℕ). q ∷ l) (x .patch ∙ ap (holdersFrom (rowsOf w n) e (n - behind i)) (sym f)) ∙ sym (from-hit (rowsOf w n) e (n - behind i) q t)
         go false t f = x .patch ∙ ap (holdersFrom (rowsOf w n) e (n - behind i)) (sym f) ∙ sym (from-miss (rowsOf w n) e (n - behind i) q t)
 
-    indexed : (b : Bool) → Indexed (corner w) (4 * n) linksAt (cond b (set s (scratchLength - (k + 1)) q) s)
-    indexed true = indexed-kept (length-set s _ q) (λ j h. getD-set-other s (scratchLength - (k + 1)) j q 0 (λ z. omega (arith, walk-room, g .state .few))) (x .index)
+    indexed : (b : Bool) → Indexed (corner w) (4 * n) linksAt (cond b (set s (length s - (linksAt + (k + 1))) q) s)
+    indexed true = indexed-kept (length-set s _ q) (λ j h. getD-set-other s (length s - (linksAt + (k + 1))) j q 0 (λ z. omega (arith, x .few, x .below, holds))) (x .index)
     indexed false = x .index
 
-    sized : (b : Bool) → length (cond b (set s (scratchLength - (k + 1)) q) s) ≡ scratchLength
+    sized : (b : Bool) → length (cond b (set s (length s - (linksAt + (k + 1))) q) s) ≡ length s₀
     sized true = length-set s _ q ∙ x .size
     sized false = x .size
 
@@ -166,7 +181,7 @@ module _ {w s₀ : List ℕ} {n : ℕ} {e : Ends} {a : ℕ} (g : Gatherable w s�
     slot : 4 * q + (i - 1) % 4 ≡ i - 1
     slot = omega arith
 
-    module _ {s' : List ℕ} {k' next : ℕ} (ek : k' ≡ cond (holding e (rowAt w q)) (k + 1) k) (es : s' ≡ cond (holding e (rowAt w q)) (set s (scratchLength - (k + 1)) q) s) (en : next ≡ getD s' (linksAt + (i - 1)) 0) where
+    module _ {s' : List ℕ} {k' next : ℕ} (ek : k' ≡ cond (holding e (rowAt w q)) (k + 1) k) (es : s' ≡ cond (holding e (rowAt w q)) (set s (length s - (linksAt + (k + 1))) q) s) (en : next ≡ getD s' (linksAt + (i - 1)) 0) where
       link : next ≡ latest (corner w) a (4 * q)
       link =
           en ∙ rw es (next-link (indexed (holding e (rowAt w q))) (omega (arith, x .below)) (x .here more))
@@ -179,7 +194,7 @@ module _ {w s₀ : List ℕ} {n : ℕ} {e : Ends} {a : ℕ} (g : Gatherable w s�
       pub walk-less : next < i
       walk-less = omega (arith, low, more)
 
-      pub walk-next : Walk w s' n e a next k'
+      pub walk-next : Walk w s₀ s' n e a next k'
       walk-next = rw (ek, es) (record {
         size = sized (holding e (rowAt w q));
         index = indexed (holding e (rowAt w q));
@@ -189,14 +204,14 @@ module _ {w s₀ : List ℕ} {n : ℕ} {e : Ends} {a : ℕ} (g : Gatherable w s�
         patch = listed (holding e (rowAt w q)) (ap (holding e) (row-is q row-there)) ∙ sym (rw (← link) at (leap q (n - q) (omega (arith, row-there)) (omega (arith, row-there))));
       })
 
-  pub walk-end : {s : List ℕ} {i k : ℕ} → Walk w s n e a i k → i ≤ 0 → Gathers w n e k s
+  pub walk-end : {s : List ℕ} {i k : ℕ} → Walk w s₀ s n e a i k → i ≤ 0 → Gathers w n e k s
   walk-end {s} {i} {k} x h =
       let first : behind i ≡ 0 = omega arith in
       let all : n - behind i ≡ length (rowsOf w n) = omega (arith, length-up-to (rowAt w) n) in
       record {
-        state = record { size = x .size; index = x .index; few = g .state .few; fits = g .state .fits; low = g .state .low; blank = g .state .blank };
+        state = record { size = rw (x .size) (g .state .size); index = x .index; few = g .state .few; fits = g .state .fits; low = g .state .low; blank = g .state .blank };
         patch = x .patch ∙ ap (λ (d : ℕ). holdersFrom (rowsOf w n) e d (behind i)) all ∙ ap (holdersFrom (rowsOf w n) e (length (rowsOf w n))) first;
         size = omega (arith, x .few);
       }
 
-pub ruleset walking = (walk-start, walk-room, walk-less, walk-next, walk-end)
+pub ruleset walking = (walk-start, walk-room, walk-fits, walk-less, walk-next, walk-end)

@@ -19,9 +19,9 @@ use Rattle.chain.proofs.laws.Index.{indexed-push-one, indexed-same}
 use Rattle.tables.specs.Layout.{rowWidth, noRow, rowAt, putRow}
 use Rattle.tables.proofs.laws.Rows.{length-put-row, row-put}
 use Rattle.tables.proofs.laws.View.{length-up-to, up-to-at}
-use Rattle.closure.specs.State.{corner, rowsOf, linksAt, patchAt, scratchLength, cornersPushed, rowPushed, State, Splittable, Halves}
+use Rattle.closure.specs.State.{corner, rowsOf, linksAt, scratchFor, cornersPushed, rowPushed, State, Splittable, Halves}
 use Rattle.run.specs.Run.{cut}
-use Rattle.closure.proofs.laws.Uses.{row-counted-length, row-counted-beyond, row-counted-indexed}
+use Rattle.closure.proofs.laws.Uses.{row-counted-length, row-counted-before, row-counted-indexed}
 use Rattle.closure.proofs.laws.Rows.{row-other, rows-next, rows-set}
 
 -- the vertices of the row are below n
@@ -38,13 +38,21 @@ corner-row w n q h =
 slot-is : (k : ℕ) → k ≡ 4 * (k / 4) + k % 4
 slot-is k = omega arith
 
+-- links and patch of n rows, heads and uses
+pub scratch-holds : (w s n : ℕ) → scratchFor w ≤ s → n ≤ 100000 → n ≤ w / rowWidth → 40000 + 5 * n ≤ s
+unfolding scratchFor
+scratch-holds w s n h few fits = omega arith
+
+pub state-holds : {w s : List ℕ} {n : ℕ} → State w s n → 40000 + 5 * n ≤ length s
+state-holds {w} {s} {n} x = scratch-holds (length w) (length s) n (x .size) (x .few) (x .fits)
+
 pub state-under : {w s : List ℕ} {n : ℕ} → State w s n → (r : ℕ) → r < n → Under linksAt (rowAt w r)
 state-under {w} x r h p l = rw (← corner-row w r p l) (x .low (4 * r + p) (omega arith))
 
 -- ---- one row appended
 
 module _ (w s : List ℕ) (n : ℕ) (r : Row) where
-  corners-length : length (cornersPushed s n r) ≡ length s
+  pub corners-length : length (cornersPushed s n r) ≡ length s
   unfolding cornersPushed
   corners-length = pushed-length _ _ _ _ ∙ pushed-length _ _ _ _ ∙ pushed-length _ _ _ _ ∙ pushed-length _ _ _ _
 
@@ -52,17 +60,18 @@ module _ (w s : List ℕ) (n : ℕ) (r : Row) where
   unfolding rowPushed
   rowPushed-length = row-counted-length (cornersPushed s n r) r ∙ corners-length
 
-  corners-beyond : n < 100000 → (j : ℕ) → patchAt ≤ j → getD (cornersPushed s n r) j 0 ≡ getD s j 0
+  corners-beyond : (j : ℕ) → linksAt + 4 * (n + 1) ≤ j → getD (cornersPushed s n r) j 0 ≡ getD s j 0
   unfolding cornersPushed
-  corners-beyond h j l =
+  corners-beyond j l =
       pushed-beyond _ linksAt (4 * n + 3) (r .v3) j (omega arith)
       ∙ pushed-beyond _ linksAt (4 * n + 2) (r .v2) j (omega arith)
       ∙ pushed-beyond _ linksAt (4 * n + 1) (r .v1) j (omega arith)
       ∙ pushed-beyond s linksAt (4 * n) (r .v0) j (omega arith)
 
-  rowPushed-beyond : n < 100000 → (j : ℕ) → patchAt ≤ j → getD (rowPushed s n r) j 0 ≡ getD s j 0
+  -- what stands between links and uses
+  rowPushed-between : {m : ℕ} → length s ≡ m → (j : ℕ) → linksAt + 4 * (n + 1) ≤ j → linksAt + j < m → getD (rowPushed s n r) j 0 ≡ getD s j 0
   unfolding rowPushed
-  rowPushed-beyond h j l = row-counted-beyond (cornersPushed s n r) r j l ∙ corners-beyond h j l
+  rowPushed-between e j l h = row-counted-before (cornersPushed s n r) r j (rw (corners-length, e) h) ∙ corners-beyond j l
 
   module _ (x : State w s n) (room : n < length w / rowWidth) (few : n < 100000) (under : Under linksAt r) where
     abbrev w' : List ℕ
@@ -74,27 +83,30 @@ module _ (w s : List ℕ) (n : ℕ) (r : Row) where
     corner-new : (q : ℕ) → q ≤ 3 → corner w' (4 * n + q) ≡ at (cornersOf r) q
     corner-new q h = corner-row w' n q h ∙ ap (λ (x : Row). at (cornersOf x) q) (row-put w n r room)
 
+    holds : 40000 + 5 * (n + 1) ≤ length s
+    holds = scratch-holds (length w) (length s) (n + 1) (x .size) (omega arith) (omega arith)
+
     -- one slot of the row more
-    slot-pushed : (k next q : ℕ) (l : List ℕ) → q ≤ 3 → k ≡ 4 * n + q → next ≡ k + 1 → length l ≡ scratchLength → Indexed (corner w') k linksAt l → Indexed (corner w') next linksAt (pushed l linksAt k (at (cornersOf r) q))
+    slot-pushed : (k next q : ℕ) (l : List ℕ) → q ≤ 3 → k ≡ 4 * n + q → next ≡ k + 1 → length l ≡ length s → Indexed (corner w') k linksAt l → Indexed (corner w') next linksAt (pushed l linksAt k (at (cornersOf r) q))
     slot-pushed k next q l h e f size i =
         let key : corner w' k ≡ at (cornersOf r) q = ap (corner w') e ∙ corner-new q h in
-        rw (f, ← key) (indexed-push-one i (rw key (under q h)) (omega arith) (omega arith))
+        rw (f, ← key) (indexed-push-one i (rw key (under q h)) (omega (arith, holds)) (omega arith))
 
     corners-indexed : Indexed (corner w') (4 * (n + 1)) linksAt (cornersPushed s n r)
     unfolding cornersPushed
     corners-indexed =
-        slot-pushed (4 * n + 3) (4 * (n + 1)) 3 _ (omega arith) refl (omega arith) (pushed-length _ _ _ _ ∙ pushed-length _ _ _ _ ∙ pushed-length _ _ _ _ ∙ x .size)
-        (slot-pushed (4 * n + 2) (4 * n + 3) 2 _ (omega arith) refl (omega arith) (pushed-length _ _ _ _ ∙ pushed-length _ _ _ _ ∙ x .size)
-        (slot-pushed (4 * n + 1) (4 * n + 2) 1 _ (omega arith) refl (omega arith) (pushed-length _ _ _ _ ∙ x .size)
-        (slot-pushed (4 * n) (4 * n + 1) 0 s (omega arith) (omega arith) (omega arith) (x .size) (indexed-same (λ k h. sym (corner-old k h)) (x .index)))))
+        slot-pushed (4 * n + 3) (4 * (n + 1)) 3 _ (omega arith) refl (omega arith) (pushed-length _ _ _ _ ∙ pushed-length _ _ _ _ ∙ pushed-length _ _ _ _)
+        (slot-pushed (4 * n + 2) (4 * n + 3) 2 _ (omega arith) refl (omega arith) (pushed-length _ _ _ _ ∙ pushed-length _ _ _ _)
+        (slot-pushed (4 * n + 1) (4 * n + 2) 1 _ (omega arith) refl (omega arith) (pushed-length _ _ _ _)
+        (slot-pushed (4 * n) (4 * n + 1) 0 s (omega arith) (omega arith) (omega arith) refl (indexed-same (λ k h. sym (corner-old k h)) (x .index)))))
 
     rows-indexed : Indexed (corner w') (4 * (n + 1)) linksAt (rowPushed s n r)
     unfolding rowPushed
-    rows-indexed = row-counted-indexed (cornersPushed s n r) r (omega arith) corners-indexed
+    rows-indexed = row-counted-indexed (cornersPushed s n r) r (rw corners-length (omega (arith, holds))) corners-indexed
 
     pub state-appended : State w' (rowPushed s n r) (n + 1)
     state-appended = record {
-      size = rowPushed-length ∙ x .size;
+      size = rw (length-put-row w n r, rowPushed-length) (x .size);
       index = rows-indexed;
       few = omega arith;
       fits = rw (length-put-row w n r) (omega arith);
@@ -122,7 +134,7 @@ module _ {w s : List ℕ} {n : ℕ} (x : State w s n) (q c : ℕ) (h : q < n) wh
 
   pub state-child : State (putRow w q parent) s n
   state-child = record {
-    size = x .size;
+    size = rw (length-put-row w q parent) (x .size);
     index = indexed-same (λ k l. sym (child-corner k)) (x .index);
     few = x .few;
     fits = rw (length-put-row w q parent) (x .fits);
@@ -182,6 +194,9 @@ module _ {w s : List ℕ} {n leaf v : ℕ} (z : Splittable w s n leaf v) where
       ∙ rw (rows-next w1 n (firstOf r leaf v) room-one, rows-set w n leaf (withChild r n) h (x .fits), length-up-to (rowAt w) n, up-to-at (rowAt w) n leaf noRow h)
       (append-assoc (set (rowsOf w n) leaf (withChild r n)) (firstOf r leaf v ∷ []) (secondOf r leaf v ∷ []))
 
+  first-length : length (rowPushed s n (firstOf r leaf v)) ≡ length s
+  first-length = rowPushed-length w s n (firstOf r leaf v)
+
   pub halves : Halves w s n leaf v w3 (rowPushed (rowPushed s n (firstOf r leaf v)) (n + 1) (secondOf r leaf v))
   halves =
       let two : n + 1 + 1 ≡ n + 2 = omega arith in
@@ -189,7 +204,8 @@ module _ {w s : List ℕ} {n leaf v : ℕ} (z : Splittable w s n leaf v) where
         size = length-put-row w2 (n + 1) (secondOf r leaf v) ∙ length-two;
         state = rw two at second-state;
         rows = rw two at rows-cut;
-        patch = λ j l. rowPushed-beyond w (rowPushed s n (firstOf r leaf v)) (n + 1) (secondOf r leaf v) (omega (arith, z .few)) j l ∙ rowPushed-beyond w s n (firstOf r leaf v) (omega (arith, z .few)) j l;
+        scratch-size = rowPushed-length w (rowPushed s n (firstOf r leaf v)) (n + 1) (secondOf r leaf v) ∙ first-length;
+        patch = λ j l h. rowPushed-between w (rowPushed s n (firstOf r leaf v)) (n + 1) (secondOf r leaf v) first-length j (omega arith) h ∙ rowPushed-between w s n (firstOf r leaf v) refl j (omega arith) h;
       }
 
   -- the same of tables that are known by what was written to them

@@ -14,7 +14,7 @@ use Rattle.run.specs.Run.{otherIn}
 use Rattle.run.proofs.laws.Edge.{own-both}
 use Rattle.closure.specs.State.{rowsOf, linksAt, patchIn, EndOf, small, large, Gatherable, Gathers, Listed}
 use Rattle.closure.specs.Refining.{Patched, Lookable, Looks}
-use Rattle.closure.proofs.laws.Index.{Under, state-under}
+use Rattle.closure.proofs.laws.Index.{Under, state-holds, state-under}
 use Rattle.closure.proofs.laws.Cutting.{patched-listed}
 
 -- both ends of a row's edge are vertices of it
@@ -31,7 +31,7 @@ module _ {w s : List ℕ} {n q : ℕ} (x : Lookable w s n q) {e : Ends} (is : e 
     patched = record { patch = rw is at (g .patch); size = g .size }
 
     pub look-listed : Listed s' n k
-    look-listed = record { size = g .state .size; few = omega (arith, g .size, g .state .few); listed = patched-listed patched }
+    look-listed = record { size = omega (arith, g .size, state-holds (g .state)); few = omega (arith, g .size, g .state .few); listed = patched-listed patched }
 
     pub look-done : {f : Found} → f ≡ otherIn (rowsOf w n) e (patchIn s' k) → Looks w n q (record { other = f; size = k }) s'
     look-done h = record {

@@ -72,8 +72,8 @@ pub ruleset passing = (mark-passed, mark-sure, mark-refined)
 
 -- ---- all marks
 
-pub marking-start : {r w s : List ℕ} {c : Counts} {room : Size} {marks : List ℕ} → AllDue r w s c room marks → Marking r w c room marks r w s c 0
-marking-start x = record { within = omega arith; due = x; runs = λ U p. p; stuck = λ p. p; reach = ready.here refl; records-size = refl; rows-size = refl }
+pub marking-start : {r w s : List ℕ} {c : Counts} {room : Size} {marks : List ℕ} → AllDue r w s c room marks → Marking r w s c room marks r w s c 0
+marking-start x = record { within = omega arith; due = x; runs = λ U p. p; stuck = λ p. p; reach = ready.here refl; records-size = refl; rows-size = refl; scratch-size = refl }
 
 -- a row that was fine stays so
 fine-later : (r' w' : List ℕ) (d : Counts) {r w s : List ℕ} {c : Counts} {room : Size} {q : ℕ} → Steady r w s c room → Reach (seen r w c) (seen r' w' d) → Fine w (c .rows) q → Fine w' (d .rows) q
@@ -83,7 +83,7 @@ fine-later r' w' d {r} {w} {c = c} {q = q} y x f =
     let there : q < d .rows = omega (arith, later .there, length-up-to (rowAt w') (d .rows)) in
     record { there = there; shallow = rw (← up-to-at (rowAt w') (d .rows) q noRow there) (later .shallow) }
 
-module _ {r₀ w₀ r w s marks : List ℕ} {c : Counts} {room : Size} {d : Counts} {j : ℕ} (x : Marking r₀ w₀ c room marks r w s d j) where
+module _ {r₀ w₀ s₀ r w s marks : List ℕ} {c : Counts} {room : Size} {d : Counts} {j : ℕ} (x : Marking r₀ w₀ s₀ c room marks r w s d j) where
   module _ (h : j < length marks) {q : ℕ} (is : q ≡ getD marks j 0) where
     pub marking-due : Due r w s d room q
     marking-due = record { steady = x .due .steady; fine = rw is (x .due .fine j h) }
@@ -100,8 +100,8 @@ module _ {r₀ w₀ r w s marks : List ℕ} {c : Counts} {room : Size} {d : Coun
         full = λ a z. subst (Failed (seen r₀ w₀ c) marks room r' w' s') (full-counts y a z) (record { stuck = x .stuck (rw next (k .stuck (drop (j + 1) marks))); reach = reach-on (x .reach) (k .reach); tables = k .tables });
       }
 
-      pub marking-next : o ≡ Done y → length r' ≡ length r → length w' ≡ length w → Marking r₀ w₀ c room marks r' w' s' y (j + 1)
-      marking-next e er ew =
+      pub marking-next : o ≡ Done y → length r' ≡ length r → length w' ≡ length w → length s' ≡ length s → Marking r₀ w₀ s₀ c room marks r' w' s' y (j + 1)
+      marking-next e er ew es =
           let k = f .done y e in
           let z = x .due .steady in
           record {
@@ -115,6 +115,7 @@ module _ {r₀ w₀ r w s marks : List ℕ} {c : Counts} {room : Size} {d : Coun
             reach = reach-on (x .reach) (k .reach);
             records-size = er ∙ x .records-size;
             rows-size = ew ∙ x .rows-size;
+            scratch-size = es ∙ x .scratch-size;
           }
 
   pub marking-done : length marks ≤ j → Marks r₀ w₀ c room marks (Done d) r w s
@@ -135,7 +136,7 @@ module _ {r₀ w₀ r w s marks : List ℕ} {c : Counts} {room : Size} {d : Coun
   pub mark-rows : {n : ℕ} → n ≡ length w → n ≡ length w₀
   mark-rows e = e ∙ x .rows-size
 
-  pub mark-scratch : {s₀ : List ℕ} → AllDue r₀ w₀ s₀ c room marks → {n : ℕ} → n ≡ length s → n ≡ length s₀
-  mark-scratch y e = e ∙ x .due .steady .tables .state .size ∙ sym (y .steady .tables .state .size)
+  pub mark-scratch : {n : ℕ} → n ≡ length s → n ≡ length s₀
+  mark-scratch e = e ∙ x .scratch-size
 
 pub ruleset marking = (marking-start, marking-due, marking-full, marking-next, marking-done, mark-records, mark-rows, mark-scratch)

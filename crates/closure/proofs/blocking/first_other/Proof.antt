@@ -10,6 +10,9 @@ Inv-loop rows scratch n k e from j₀ j = Looked rows scratch n k e j
 abbrev μ-loop : tie.MeasureT-loop
 μ-loop rows scratch n k e from j₀ j = k - j
 
+add-from : tie.Need-add-from Inv-loop μ-loop
+add-from c = search (looking, needs)
+
 sub-from : tie.Need-sub-from Inv-loop μ-loop
 sub-from c = search (looking, needs)
 
@@ -52,6 +55,7 @@ first-other-spec =
     (tie.spec
     Inv-loop
     μ-loop
+    add-from
     sub-from
     loop-holds
     add-wide

@@ -5,7 +5,7 @@ use Rattle.closure.proofs.build.index_rows.Statement.{statement}
 use Rattle.closure.proofs.build.index_rows.Tie as tie
 
 abbrev Inv-loop : tie.InvT-loop
-Inv-loop rows scratch₀ n k₀ scratch k = Building rows scratch n k
+Inv-loop rows scratch₀ n k₀ scratch k = Building rows scratch₀ scratch n k
 
 abbrev μ-loop : tie.MeasureT-loop
 μ-loop rows scratch₀ n k₀ scratch k = n - k

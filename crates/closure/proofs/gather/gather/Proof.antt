@@ -4,7 +4,7 @@ use Rattle.closure.proofs.gather.gather.Statement.{statement}
 use Rattle.closure.proofs.gather.gather.Tie as tie
 
 abbrev Inv-loop : tie.InvT-loop
-Inv-loop rows scratch₀ n e a at₀ k₀ scratch at k = Walk rows scratch n e a at k
+Inv-loop rows scratch₀ n e a at₀ k₀ scratch at k = Walk rows scratch₀ scratch n e a at k
 
 abbrev μ-loop : tie.MeasureT-loop
 μ-loop rows scratch₀ n e a at₀ k₀ scratch at k = at

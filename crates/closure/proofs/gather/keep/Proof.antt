@@ -9,14 +9,17 @@ holding-requires c κs = search needs
 returns : tie.Need-returns
 returns c = (search branches, search branches)
 
+add-at : tie.Need-add-at
+add-at c = search needs
+
+add-at-2 : tie.Need-add-at-2
+add-at-2 c = search needs
+
+sub-at : tie.Need-sub-at
+sub-at c = search needs
+
 cast-scratch : tie.Need-cast-scratch
 cast-scratch c = search needs
-
-add-scratch : tie.Need-add-scratch
-add-scratch c = search needs
-
-sub-scratch : tie.Need-sub-scratch
-sub-scratch c = search needs
 
 mul-scratch : tie.Need-mul-scratch
 mul-scratch c = search needs
@@ -39,9 +42,10 @@ keep-spec =
     (tie.spec
     holding-requires
     returns
+    add-at
+    add-at-2
+    sub-at
     cast-scratch
-    add-scratch
-    sub-scratch
     mul-scratch
     slice-write-scratch
     add-result

@@ -3,14 +3,8 @@ use Rattle.closure.proofs.laws.Uses.{counts}
 use Rattle.closure.proofs.index.count.Statement.{statement}
 use Rattle.closure.proofs.index.count.Tie as tie
 
-wide-requires : tie.Need-wide-requires
-wide-requires c κs = search needs
-
-returns : tie.Need-returns
-returns c = search (counts, needs)
-
-add-at : tie.Need-add-at
-add-at c = search needs
+use-at-requires : tie.Need-use-at-requires
+use-at-requires c κs = search needs
 
 mul-bump : tie.Need-mul-bump
 mul-bump c = search needs
@@ -30,24 +24,22 @@ slice-write-scratch c = search needs
 same-length : tie.Need-same-length
 same-length c = search needs
 
+returns : tie.Need-returns
+returns c = search (counts, needs)
+
 returns-2 : tie.Need-returns-2
 returns-2 c = search (counts, needs)
-
-returns-3 : tie.Need-returns-3
-returns-3 c = search (counts, needs)
 
 pub count-spec : {M : Type 1} → statement M
 count-spec =
     tie.close
     (tie.spec
-    wide-requires
-    returns
-    add-at
+    use-at-requires
     mul-bump
     slice-read-bump
     bump-requires
     mul-scratch
     slice-write-scratch
     same-length
-    returns-2
-    returns-3)
+    returns
+    returns-2)

@@ -6,7 +6,7 @@ use Rattle.closure.proofs.marks.refine_marks.Statement.{statement}
 use Rattle.closure.proofs.marks.refine_marks.Tie as tie
 
 abbrev Inv-loop : tie.InvT-loop
-Inv-loop records₀ rows₀ scratch₀ room marks n d₀ j₀ records rows scratch d j = Marking records₀ rows₀ d₀ room marks records rows scratch d j
+Inv-loop records₀ rows₀ scratch₀ room marks n d₀ j₀ records rows scratch d j = Marking records₀ rows₀ scratch₀ d₀ room marks records rows scratch d j
 
 abbrev μ-loop : tie.MeasureT-loop
 μ-loop records₀ rows₀ scratch₀ room marks n d₀ j₀ records rows scratch d j = n - j

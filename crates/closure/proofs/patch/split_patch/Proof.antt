@@ -10,6 +10,9 @@ Inv-loop rows₀ scratch₀ n k v from j₀ rows scratch j = Turn rows₀ scratc
 abbrev μ-loop : tie.MeasureT-loop
 μ-loop rows₀ scratch₀ n k v from j₀ rows scratch j = k - j
 
+add-from : tie.Need-add-from Inv-loop μ-loop
+add-from c = search (turning, needs)
+
 sub-from : tie.Need-sub-from Inv-loop μ-loop
 sub-from c = search (turning, needs)
 
@@ -58,6 +61,7 @@ split-patch-spec =
     (tie.spec
     Inv-loop
     μ-loop
+    add-from
     sub-from
     loop-holds
     add-leaf

@@ -40,7 +40,7 @@ refine-leaf-below t =
     and 3 refine-leaf-kinds.ps (falls 3 refine-leaf-kinds.ps _<_ μ-refine-leaf t) refine-leaf.Pre
 
 abbrev clear-patch-Inv-loop : clear-patch-lts.InvT-loop
-clear-patch-Inv-loop records₀ rows₀ scratch₀ room q d₀ records rows scratch d = Clearing records₀ rows₀ d₀ room q records rows scratch d
+clear-patch-Inv-loop records₀ rows₀ scratch₀ room q d₀ records rows scratch d = Clearing records₀ rows₀ scratch₀ d₀ room q records rows scratch d
 
 abbrev clear-patch-μ-loop : clear-patch-lts.MeasureT-loop
 clear-patch-μ-loop records₀ rows₀ scratch₀ room q d₀ records rows scratch d = room .vertices - d .vertices
