@@ -10,7 +10,7 @@ use Rattle.split.specs.Split.{Distinct}
 use Rattle.split.specs.Row.{cornersOf, edgeOf}
 use Rattle.tables.specs.declared.layout.Counts.{Counts}
 use Rattle.tables.specs.declared.layout.Size.{Size}
-use Rattle.tables.specs.Layout.{rowWidth, recordWidth, noRecord, recordAt, rowAt}
+use Rattle.tables.specs.Layout.{rowWidth, recordWidth, noRecord, recordAt, rowAt, mostRows, mostVertices}
 use Rattle.intake.specs.declared.answer.Found.the-variants.{Nowhere}
 use Rattle.run.specs.Skeleton.{Skeleton}
 use Rattle.run.specs.Ready.{Ready, Open, Reach, rankIn}
@@ -27,8 +27,8 @@ pub record Tables (r w s : List ℕ) (c : Counts) (room : Size) : Type 0 where
   pub state : State w s (c .rows)
   pub vertices-in : c .vertices ≤ room .vertices
   pub rows-in : c .rows ≤ room .rows
-  pub few-vertices : room .vertices ≤ 20000
-  pub few-rows : room .rows ≤ 100000
+  pub few-vertices : room .vertices ≤ mostVertices
+  pub few-rows : room .rows ≤ mostRows
   pub records-fit : room .vertices ≤ length r / recordWidth
   pub rows-fit : room .rows ≤ length w / rowWidth
   pub blank : (v : ℕ) → c .vertices ≤ v → recordAt r v ≡ noRecord

@@ -10,7 +10,7 @@ use Rattle.split.specs.declared.row.Ends.{Ends}
 use Rattle.chain.specs.Chain.{Indexed, pushed}
 use Rattle.tables.specs.declared.layout.Counts.{Counts}
 use Rattle.tables.specs.declared.record.Record.{Record}
-use Rattle.tables.specs.Layout.{rowWidth, noRow, recordAt, rowAt}
+use Rattle.tables.specs.Layout.{rowWidth, noRow, recordAt, rowAt, mostRows, mostVertices}
 use Rattle.tables.specs.Mesh.{upTo}
 use Rattle.run.specs.Skeleton.{Skeleton}
 use Rattle.split.specs.Split.{at, Distinct}
@@ -35,11 +35,11 @@ corner w s = at (cornersOf (rowAt w (s / 4))) (s % 4)
 -- ---- the scratch table: heads, links, the patch, and at its end the uses. Its length is the caller's
 
 abbrev pub linksAt : ℕ
-linksAt = 20000
+linksAt = mostVertices
 
 -- what is enough for an element table of w numbers: heads and uses, and for each row that it has room for four links and a place in a patch
 unfoldable pub scratchFor : ℕ → ℕ
-scratchFor w = 40000 + 5 * min 100000 (w / rowWidth)
+scratchFor w = 2 * mostVertices + 5 * min mostRows (w / rowWidth)
 
 -- four corners of row n appended to the index
 unfoldable pub cornersPushed : List ℕ → ℕ → Row → List ℕ
@@ -71,7 +71,7 @@ patchIn s k = upTo (λ (j : ℕ). getD s (length s - (linksAt + k) + j) 0) k
 pub record State (w s : List ℕ) (n : ℕ) : Type 0 where
   pub size : scratchFor (length w) ≤ length s
   pub index : Indexed (corner w) (4 * n) linksAt s
-  pub few : n ≤ 100000
+  pub few : n ≤ mostRows
   pub fits : n ≤ length w / rowWidth
   pub low : (k : ℕ) → k < 4 * n → corner w k < linksAt
   pub blank : (k : ℕ) → n ≤ k → rowAt w k ≡ noRow
@@ -81,7 +81,7 @@ pub record Splittable (w s : List ℕ) (n leaf v : ℕ) : Type 0 where
   pub state : State w s n
   pub there : leaf < n
   pub room : n + 2 ≤ length w / rowWidth
-  pub few : n + 2 ≤ 100000
+  pub few : n + 2 ≤ mostRows
   pub low : v < linksAt
 
 -- one leaf was split, and what stands between links and uses is as it was
@@ -96,7 +96,7 @@ pub record Halves (w s : List ℕ) (n leaf v : ℕ) (w' s' : List ℕ) : Type 0 
 pub record Patchable (w s : List ℕ) (n k v : ℕ) : Type 0 where
   pub state : State w s n
   pub room : n + 2 * k ≤ length w / rowWidth
-  pub few : n + 2 * k ≤ 100000
+  pub few : n + 2 * k ≤ mostRows
   pub low : v < linksAt
   pub size : linksAt + k ≤ length s
   pub listed : (j : ℕ) → j < k → getD s (length s - (linksAt + k) + j) 0 < n
@@ -130,5 +130,5 @@ pub record Gathers (w : List ℕ) (n : ℕ) (e : Ends) (k : ℕ) (s' : List ℕ)
 -- the k numbers before the uses are rows below n
 pub record Listed (s : List ℕ) (n k : ℕ) : Type 0 where
   pub size : linksAt + k ≤ length s
-  pub few : k ≤ 100000
+  pub few : k ≤ mostRows
   pub listed : (j : ℕ) → j < k → getD s (length s - (linksAt + k) + j) 0 < n

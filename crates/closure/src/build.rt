@@ -2,12 +2,12 @@
 use crate::index::index_row;
 ghost use mathlib.Core.Path.{_≡_};
 ghost use Prim.Native.Nat.{_<_};
-ghost use Rattle.tables.specs.Layout.{rowAt};
+ghost use Rattle.tables.specs.Layout.{rowAt, mostRows};
 ghost use Rattle.closure.specs.State.{rowPushed, State};
 ghost use Rattle.closure.specs.Build.{Indexable};
 
 fn index_standing(rows: &[u32], scratch: &mut [u32], k: usize)
-    requires { ⌜ k < 100000 ⌝ }
+    requires { ⌜ k < mostRows ⌝ }
     ensures { λ _. ⌜ now (scratch .exit) ≡ rowPushed (now (scratch .entry)) k (rowAt (now (rows .entry)) k) ⌝ }
 {
     index_row(scratch, k, tables::row::read(rows, k));

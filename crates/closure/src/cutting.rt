@@ -9,14 +9,14 @@ use tables::record::Record;
 ghost use mathlib.Core.Path.{_≡_};
 ghost use Prim.Native.Nat.{_+_, _*_, _≤_};
 ghost use Rattle.split.specs.Row.{edgeOf};
-ghost use Rattle.tables.specs.Layout.{rowAt, putRecord};
+ghost use Rattle.tables.specs.Layout.{rowAt, putRecord, mostRows};
 ghost use Rattle.run.specs.Run.{recordFor};
 ghost use Rattle.closure.specs.Refining.{Cuttable, Refines, fitsIn};
 
 // Whether one vertex more and the children of k leaves fit.
 fn fits(d: Counts, room: Size, k: usize) -> bool
-    requires { ⌜ d .rows ≤ 100000 ⌝ }
-    requires { ⌜ k ≤ 100000 ⌝ }
+    requires { ⌜ d .rows ≤ mostRows ⌝ }
+    requires { ⌜ k ≤ mostRows ⌝ }
     ensures { λ b. ⌜ b ≡ fitsIn room d k ⌝ }
 {
     if room.vertices <= d.vertices {

@@ -7,7 +7,7 @@ ghost use mathlib.Core.Path.{_≡_};
 ghost use mathlib.Core.Bool.{cond};
 ghost use Prim.Native.Nat.{_+_, _-_, _<_};
 ghost use lib.ListN.{length, set};
-ghost use Rattle.tables.specs.Layout.{rowAt};
+ghost use Rattle.tables.specs.Layout.{rowAt, mostRows};
 ghost use Rattle.run.specs.Run as run;
 ghost use Rattle.closure.specs.State.{linksAt, Gatherable, Gathers};
 
@@ -43,8 +43,8 @@ fn holding(rows: &[u32], k: usize, e: Ends) -> bool
 // Lists row q before the k rows already listed, where it is a leaf holding both ends of e, and answers how many are listed then.
 fn keep(rows: &[u32], scratch: &mut [u32], q: usize, e: Ends, k: usize) -> usize
     requires { ⌜ linksAt + k < length (now scratch) ⌝ }
-    requires { ⌜ k < 100000 ⌝ }
-    requires { ⌜ q < 100000 ⌝ }
+    requires { ⌜ k < mostRows ⌝ }
+    requires { ⌜ q < mostRows ⌝ }
     ensures { λ j. ⌜ j ≡ cond (run.holding e (rowAt (now (rows .entry)) q)) (k + 1) k ⌝ }
     ensures { λ _. ⌜ now (scratch .exit) ≡ cond (run.holding e (rowAt (now (rows .entry)) q)) (set (now (scratch .entry)) (length (now (scratch .entry)) - (linksAt + (k + 1))) q) (now (scratch .entry)) ⌝ }
 {

@@ -2,15 +2,17 @@
 use chain::wide;
 use split::row::Ends;
 use split::row::Row;
+use tables::layout::MOST_VERTICES;
 ghost use mathlib.Core.Path.{_≡_};
 ghost use Prim.Native.Nat.{_<_};
+ghost use Rattle.tables.specs.Layout.{mostRows};
 ghost use Rattle.closure.specs.State.{cornersPushed, bumped, useAt, counted, rowCounted, rowPushed, EndOf};
 
-pub const LINKS: usize = 20000;
+pub const LINKS: usize = MOST_VERTICES;
 
 // Appends the four corners of row n.
 fn push_corners(scratch: &mut [u32], n: usize, r: Row)
-    requires { ⌜ n < 100000 ⌝ }
+    requires { ⌜ n < mostRows ⌝ }
     ensures { λ _. ⌜ now (scratch .exit) ≡ cornersPushed (now (scratch .entry)) n r ⌝ }
 {
     let s = 4 * n;
@@ -61,7 +63,7 @@ fn count_row(scratch: &mut [u32], r: Row)
 
 // Row n in the index, and its corners counted.
 pub fn index_row(scratch: &mut [u32], n: usize, r: Row)
-    requires { ⌜ n < 100000 ⌝ }
+    requires { ⌜ n < mostRows ⌝ }
     ensures { λ _. ⌜ now (scratch .exit) ≡ rowPushed (now (scratch .entry)) n r ⌝ }
 {
     push_corners(scratch, n, r);

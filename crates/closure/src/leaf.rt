@@ -5,12 +5,12 @@ use split::row::Row;
 use split::row::with_child;
 ghost use mathlib.Core.Path.{_≡_};
 ghost use Prim.Native.Nat.{_+_, _<_};
-ghost use Rattle.tables.specs.Layout.{rowAt, putRow};
+ghost use Rattle.tables.specs.Layout.{rowAt, putRow, mostRows};
 ghost use Rattle.split.specs.Row.{withChild, firstOf, secondOf};
 ghost use Rattle.closure.specs.State.{rowPushed, Splittable, Halves};
 
 fn append(rows: &mut [u32], scratch: &mut [u32], n: usize, r: Row)
-    requires { ⌜ n < 100000 ⌝ }
+    requires { ⌜ n < mostRows ⌝ }
     ensures { λ _. ⌜ now (rows .exit) ≡ putRow (now (rows .entry)) n r ⌝ }
     ensures { λ _. ⌜ now (scratch .exit) ≡ rowPushed (now (scratch .entry)) n r ⌝ }
 {
@@ -20,7 +20,7 @@ fn append(rows: &mut [u32], scratch: &mut [u32], n: usize, r: Row)
 
 // Gives a leaf its first child, the row n, and answers the leaf as it was.
 fn adopt(rows: &mut [u32], leaf: u32, n: usize) -> Row
-    requires { ⌜ n < 100000 ⌝ }
+    requires { ⌜ n < mostRows ⌝ }
     ensures { λ r. ⌜ r ≡ rowAt (now (rows .entry)) leaf ⌝ }
     ensures { λ _. ⌜ now (rows .exit) ≡ putRow (now (rows .entry)) leaf (withChild (rowAt (now (rows .entry)) leaf) n) ⌝ }
 {
@@ -31,7 +31,7 @@ fn adopt(rows: &mut [u32], leaf: u32, n: usize) -> Row
 
 // Appends the two children of `held`, the row `leaf`, at the vertex v.
 fn bear(rows: &mut [u32], scratch: &mut [u32], n: usize, leaf: u32, held: Row, v: u32)
-    requires { ⌜ n + 1 < 100000 ⌝ }
+    requires { ⌜ n + 1 < mostRows ⌝ }
     ensures { λ _. ⌜ now (rows .exit) ≡ putRow (putRow (now (rows .entry)) n (firstOf held leaf v)) (n + 1) (secondOf held leaf v) ⌝ }
     ensures { λ _. ⌜ now (scratch .exit) ≡ rowPushed (rowPushed (now (scratch .entry)) n (firstOf held leaf v)) (n + 1) (secondOf held leaf v) ⌝ }
 {

@@ -3,7 +3,7 @@ use mathlib.Core.List.{List, [], _∷_}
 use mathlib.Core.Option.{Option, none, some}
 use Prim.Native.Nat.{ℕ, _+_, _*_, _/_}
 use lib.ListN.{length, replicate}
-use Rattle.tables.specs.Layout.{noFloat}
+use Rattle.tables.specs.Layout.{noFloat, pointWidth}
 use Rattle.forest.specs.Element.{Element}
 use Rattle.intake.specs.Cells.{quads}
 use Rattle.opening.specs.Opening.{openedMesh}
@@ -18,7 +18,7 @@ pub record Summary : Type 0 where
   pub splits : List Element
 
 abbrev opened : List ℕ → ℕ → Skeleton
-opened elements n = skeleton (openedMesh (replicate (3 * n) noFloat) (quads elements))
+opened elements n = skeleton (openedMesh (replicate (pointWidth * n) noFloat) (quads elements))
 
 abbrev summed : ℕ → Option Skeleton → Option Summary
 summed t none = none

@@ -5,14 +5,14 @@ use Prim.Native.Nat.{ℕ, _+_, _*_, _%_, _^_}
 use lib.Dec.{eqb, ltb, leb}
 use lib.ListN.{getD}
 use lib.Ieee.{Float, nan, inf, fin, up, down}
-use Rattle.tables.specs.Layout.{roomOf, pointWidth, recordWidth, rowWidth}
+use Rattle.tables.specs.Layout.{roomOf, pointWidth, recordWidth, rowWidth, mostRows, mostVertices}
 use Rattle.intake.specs.Search.{any, count}
 use Rattle.intake.specs.Cells.{Cells}
 
 -- 1: input length not 3 a vertex or 4 an element; no element; over 20,000 vertices or 100,000 elements
 unfoldable pub wrongInput : ℕ → ℕ → Bool
 wrongInput coordinates elements =
-    not (eqb (coordinates % 3) 0) || (not (eqb (elements % 4) 0) || (eqb elements 0 || (ltb 60000 coordinates || ltb 400000 elements)))
+    not (eqb (coordinates % pointWidth) 0) || (not (eqb (elements % 4) 0) || (eqb elements 0 || (ltb (pointWidth * mostVertices) coordinates || ltb (4 * mostRows) elements)))
 
 -- 1: lent length no multiple of 3, 2, 8
 unfoldable pub wrongLent : ℕ → ℕ → ℕ → Bool
@@ -30,7 +30,7 @@ usable (fin s m e) = leb (m * up e) (2 ^ 1000 * down e)
 
 -- 3: a coordinate of vertex v is not finite, or of magnitude over 2 ^ 1000
 unfoldable pub unusable : List Float → ℕ → Bool
-unusable F v = not (usable (getD F (3 * v) nan) && (usable (getD F (3 * v + 1) nan) && usable (getD F (3 * v + 2) nan)))
+unusable F v = not (usable (getD F (pointWidth * v) nan) && (usable (getD F (pointWidth * v + 1) nan) && usable (getD F (pointWidth * v + 2) nan)))
 
 -- the vertex at place q of element k
 abbrev pub vertex : Cells → ℕ → ℕ → ℕ

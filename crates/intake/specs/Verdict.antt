@@ -4,6 +4,7 @@ use mathlib.Core.List.{List}
 use Prim.Native.Nat.{ℕ, _/_}
 use lib.ListN.{length}
 use lib.Ieee.{Float}
+use Rattle.tables.specs.Layout.{pointWidth}
 use Rattle.intake.specs.declared.answer.Found.{Found}
 use Rattle.intake.specs.declared.answer.Found.the-variants.{At, Nowhere}
 use Rattle.intake.specs.declared.answer.Verdict.{Verdict}
@@ -24,9 +25,9 @@ at Nowhere n next = next
 
 -- tests 3 to 5, on coordinates and vertex numbers, and then the rest
 unfoldable pub plain : List Float → Cells → Verdict → Verdict
-plain F E next = at (first (unusable F) (length F / 3)) 3 (at (first (missing (length F / 3) E) (E .count)) 4 (at (first (double E) (E .count)) 5 next))
+plain F E next = at (first (unusable F) (length F / pointWidth)) 3 (at (first (missing (length F / pointWidth) E) (E .count)) 4 (at (first (double E) (E .count)) 5 next))
 
 -- tests 1 and 2, on lengths alone, and then the rest
 unfoldable pub fitting : ℕ → ℕ → ℕ → ℕ → ℕ → Verdict → Verdict
 fitting coordinates elements points records rows next =
-    when (wrongInput coordinates elements || wrongLent points records rows) 1 (when (noRoom (coordinates / 3) (elements / 4) points records rows) 2 next)
+    when (wrongInput coordinates elements || wrongLent points records rows) 1 (when (noRoom (coordinates / pointWidth) (elements / 4) points records rows) 2 next)

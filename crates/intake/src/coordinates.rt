@@ -1,8 +1,10 @@
 // Number 3: a coordinate that is not finite, or of magnitude over 2 ^ 1000.
 use crate::answer::Found;
+use tables::layout::POINT;
 ghost use mathlib.Core.Path.{_≡_};
 ghost use Prim.Native.Nat.{_*_, _/_, _<_, _+_};
 ghost use lib.ListN.{length};
+ghost use Rattle.tables.specs.Layout.{pointWidth};
 ghost use Rattle.intake.specs.Causes.{usable, unusable};
 ghost use Rattle.intake.specs.Search.{first};
 
@@ -18,10 +20,10 @@ pub fn is_usable(x: f64) -> bool
 }
 
 fn is_unusable(coordinates: &[f64], v: usize) -> bool
-    requires { ⌜ 3 * v + 2 < length (now coordinates) ⌝ }
+    requires { ⌜ pointWidth * v + 2 < length (now coordinates) ⌝ }
     ensures { λ r. ⌜ r ≡ unusable (now (coordinates .entry)) v ⌝ }
 {
-    let i = 3 * v;
+    let i = POINT * v;
     if is_usable(coordinates[i]) {
         if is_usable(coordinates[i + 1]) {
             if is_usable(coordinates[i + 2]) {
@@ -33,9 +35,9 @@ fn is_unusable(coordinates: &[f64], v: usize) -> bool
 }
 
 pub fn first_unusable(coordinates: &[f64]) -> Found
-    ensures { λ r. ⌜ r ≡ first (unusable (now (coordinates .entry))) (length (now (coordinates .entry)) / 3) ⌝ }
+    ensures { λ r. ⌜ r ≡ first (unusable (now (coordinates .entry))) (length (now (coordinates .entry)) / pointWidth) ⌝ }
 {
-    let n = coordinates.len() / 3;
+    let n = coordinates.len() / POINT;
     let mut v = 0usize;
     while v < n {
         if is_unusable(coordinates, v) {

@@ -1,4 +1,7 @@
 // Numbers 1 and 2: lengths and room.
+use crate::grid::CORNERS;
+use tables::layout::MOST_ROWS;
+use tables::layout::MOST_VERTICES;
 use tables::layout::POINT;
 use tables::layout::RECORD;
 use tables::layout::ROW;
@@ -9,19 +12,19 @@ ghost use Rattle.intake.specs.Causes.{wrongInput, wrongLent, noRoom};
 pub fn input_wrong(coordinates: usize, elements: usize) -> bool
     ensures { λ r. ⌜ r ≡ wrongInput coordinates elements ⌝ }
 {
-    if coordinates % 3 != 0 {
+    if coordinates % POINT != 0 {
         return true;
     }
-    if elements % 4 != 0 {
+    if elements % CORNERS != 0 {
         return true;
     }
     if elements == 0 {
         return true;
     }
-    if 60000 < coordinates {
+    if POINT * MOST_VERTICES < coordinates {
         return true;
     }
-    400000 < elements
+    CORNERS * MOST_ROWS < elements
 }
 
 // Lengths that no lent table has.

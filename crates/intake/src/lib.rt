@@ -10,10 +10,12 @@ use crate::answer::Verdict;
 use crate::coordinates::first_unusable;
 use crate::elements::first_double;
 use crate::elements::first_missing;
+use crate::grid::CORNERS;
 use crate::grid::Grid;
 use crate::lengths::input_wrong;
 use crate::lengths::lent_wrong;
 use crate::lengths::too_many;
+use tables::layout::POINT;
 ghost use mathlib.Core.Path.{_≡_};
 ghost use Rattle.intake.specs.declared.answer.Verdict.the-variants.{Passed};
 ghost use Rattle.intake.specs.Cells.{cells};
@@ -51,7 +53,13 @@ pub fn judge_lengths(
             place: 0,
         };
     }
-    if too_many(coordinates / 3, elements / 4, points, records, rows) {
+    if too_many(
+        coordinates / POINT,
+        elements / CORNERS,
+        points,
+        records,
+        rows,
+    ) {
         return Verdict::Refused {
             number: 2,
             place: 0,
@@ -65,7 +73,7 @@ pub fn judge_numbers(coordinates: &[f64], elements: &[u32], grid: Grid) -> Verdi
     ensures { λ r. ⌜ r ≡ plain (now (coordinates .entry)) (cells (now (elements .entry)) grid) Passed ⌝ }
 {
     let unusable = first_unusable(coordinates);
-    let missing = first_missing(elements, grid, coordinates.len() / 3);
+    let missing = first_missing(elements, grid, coordinates.len() / POINT);
     let double = first_double(elements, grid);
     let last = verdict_at(double, 5, Verdict::Passed);
     let then = verdict_at(missing, 4, last);

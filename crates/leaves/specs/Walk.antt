@@ -7,7 +7,7 @@ use lib.Dec.{eqb}
 use lib.ListN.{length, set}
 use lib.Seq.{sets}
 use Rattle.split.specs.declared.row.Row.{Row}
-use Rattle.tables.specs.Layout.{rowWidth, rowAt, noRow}
+use Rattle.tables.specs.Layout.{rowWidth, rowAt, noRow, mostRows}
 use Rattle.tables.specs.Mesh.{upTo}
 use Rattle.intake.specs.Search.{count}
 use Rattle.leaves.specs.Listing.{levelOf, levelIn, listingFrom, treeOf, treesBelow, listing}
@@ -37,7 +37,7 @@ pub record Branches (w : List ℕ) (n q : ℕ) : Type 0 where
 
 -- the first n rows are a forest: from each split row there are ways to its children and no further than depth 60
 pub record Wooded (w : List ℕ) (n : ℕ) : Type 0 where
-  pub few : n ≤ 100000
+  pub few : n ≤ mostRows
   pub branches : (q : ℕ) → q < n → (rowAt w q .child ≡ 0 → ⊥) → Branches w n q
 
 -- row k's tree can be listed from place `at` on
@@ -45,7 +45,7 @@ pub record Walkable (w : List ℕ) (k at : ℕ) : Type 0 where
   pub rows : ℕ
   pub wooded : Wooded w rows
   pub there : k < rows
-  pub room : at + length (below w k) ≤ 100000
+  pub room : at + length (below w k) ≤ mostRows
 
 -- the rows of `tree` and their levels were stored from place `at` on, and e is the place after them
 pub record Stores (w tree : List ℕ) (at : ℕ) (list levels : List ℕ) (e : ℕ) (list' levels' : List ℕ) : Type 0 where
@@ -55,8 +55,8 @@ pub record Stores (w tree : List ℕ) (at : ℕ) (list levels : List ℕ) (e : �
 
 -- row k may be stored at a place, and the place after it counted
 pub record Low (k at : ℕ) : Type 0 where
-  pub row-low : k < 100000
-  pub place-low : at < 100000
+  pub row-low : k < mostRows
+  pub place-low : at < mostRows
 
 -- one row and the level of its depth were stored
 pub record StoresOne (at k depth : ℕ) (list levels : List ℕ) (e : ℕ) (list' levels' : List ℕ) : Type 0 where
@@ -70,7 +70,7 @@ pub record Rooted (w : List ℕ) (k at : ℕ) : Type 0 where
   pub wooded : Wooded w rows
   pub there : k < rows
   pub top : rowAt w k .parent ≡ k → rowAt w k .depth ≡ 0
-  pub room : at + length (treeOf (rowsIn w) k) ≤ 100000
+  pub room : at + length (treeOf (rowsIn w) k) ≤ mostRows
 
 -- the first n rows are those of sound tables: a forest with roots of depth 0, zeros after it, and as many leaves as are listed
 pub record Listable (w : List ℕ) (n : ℕ) : Type 0 where

@@ -5,6 +5,7 @@ use chain::clear;
 ghost use mathlib.Core.Path.{_≡_};
 ghost use mathlib.Core.Bool.{cond};
 ghost use Prim.Native.Nat.{_≤_};
+ghost use Rattle.tables.specs.Layout.{mostRows};
 ghost use Rattle.intake.specs.Search.{count};
 ghost use Rattle.leaves.specs.Lists.{Accepts, OnRoom};
 ghost use Rattle.leaves.specs.Walk.{rowsOf, leafAt, Listable, Roomy};
@@ -21,7 +22,7 @@ fn leaf_at(rows: &[u32], k: usize) -> usize
 }
 
 fn count_leaves(rows: &[u32], n: usize) -> usize
-    requires { ⌜ n ≤ 100000 ⌝ }
+    requires { ⌜ n ≤ mostRows ⌝ }
     ensures { λ r. ⌜ r ≡ count (leafAt (now (rows .entry))) n ⌝ }
 {
     let mut size = 0usize;

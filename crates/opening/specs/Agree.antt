@@ -7,7 +7,7 @@ use lib.ListN.{length, getD}
 use lib.Ieee.{Float}
 use Rattle.split.specs.Row.{sameRow}
 use Rattle.tables.specs.declared.record.Record.{Record}
-use Rattle.tables.specs.Layout.{recordAt, rowAt}
+use Rattle.tables.specs.Layout.{recordAt, rowAt, mostRows, mostVertices, pointWidth}
 use Rattle.intake.specs.declared.answer.Verdict.{Verdict}
 use Rattle.intake.specs.declared.answer.Verdict.the-variants.{Passed, Refused}
 use Rattle.intake.specs.Verdict.{plain}
@@ -37,14 +37,14 @@ rowsAgree N colour E rows n = every (λ k. sameRow (rowAt rows k) (rootOf N colo
 
 -- the colour of each vertex by Algorithm 2
 abbrev pub paint : List Float → Cells → ℕ → ℕ
-paint F E v = getD (colours E (length F / 3)) v 0
+paint F E v = getD (colours E (length F / pointWidth)) v 0
 
 -- there is an element, all is within capacity, and the memory has room for an index of all corner slots
 unfoldable pub workable : ℕ → ℕ → ℕ → Bool
-workable coordinates elements memory = leb coordinates 60000 && (leb 1 elements && (leb elements 100000 && leb (linksAt + 4 * elements) memory))
+workable coordinates elements memory = leb coordinates (pointWidth * mostVertices) && (leb 1 elements && (leb elements mostRows && leb (linksAt + 4 * elements) memory))
 
 -- opening F and E passes tests 3 to 8, and the tables have its records and, but for the first child, its rows
 unfoldable pub agreed : List Float → Cells → List ℕ → List ℕ → Bool
 agreed F E records rows =
-    accepts (plain F E (late E (length F / 3)))
-    && (recordsAgree (paint F E) records (length F / 3) && rowsAgree (largest (colours E (length F / 3))) (paint F E) E rows (E .count))
+    accepts (plain F E (late E (length F / pointWidth)))
+    && (recordsAgree (paint F E) records (length F / pointWidth) && rowsAgree (largest (colours E (length F / pointWidth))) (paint F E) E rows (E .count))

@@ -8,7 +8,7 @@ use Rattle.split.specs.declared.row.Row.{Row}
 use Rattle.split.specs.Split.{three, number, Holds}
 use Rattle.split.specs.Row.{cornersOf, root}
 use Rattle.tables.specs.declared.layout.Counts.{Counts}
-use Rattle.tables.specs.Layout.{pointAt, recordAt, rowAt}
+use Rattle.tables.specs.Layout.{pointAt, recordAt, rowAt, pointWidth}
 use Rattle.tables.specs.Mesh.{Lent, Unused}
 use Rattle.forest.specs.Start.{Started}
 use Rattle.intake.specs.Cells.{Cells, quads}
@@ -32,7 +32,7 @@ pub record AsRoot (E : Cells) (N : ℕ) (colour : ℕ → ℕ) (k : ℕ) (r : Ro
 
 -- the tables t with the counts c are what opening the coordinates F and the elements E is to give (demand 2)
 pub record OpenedAsDemanded (F : List Float) (E : List ℕ) (c : Counts) (t : Lent) : Type 0 where
-  pub vertices : c .vertices ≡ length F / 3
+  pub vertices : c .vertices ≡ length F / pointWidth
   pub rows : c .rows ≡ length E / 4
   pub point : (v : ℕ) → v < c .vertices → pointAt (t .points) v ≡ pointAt F v
   pub colour : ℕ → ℕ

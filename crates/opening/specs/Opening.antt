@@ -5,7 +5,7 @@ use Prim.Native.Nat.{ℕ, _/_}
 use lib.ListN.{length, getD}
 use lib.Ieee.{Float}
 use Rattle.tables.specs.declared.record.Record.{Record}
-use Rattle.tables.specs.Layout.{pointAt, started}
+use Rattle.tables.specs.Layout.{pointAt, started, pointWidth}
 use Rattle.tables.specs.Mesh.{Lent, Mesh, upTo, laid}
 use Rattle.tables.specs.Report.{Report, refusal, done}
 use Rattle.intake.specs.declared.answer.Verdict.{Verdict}
@@ -25,7 +25,7 @@ late E vertices = at (first (same E) (E .count)) 6 (at (first (third E) (E .coun
 
 -- all tests in their order
 unfoldable pub judged : List Float → List ℕ → ℕ → ℕ → ℕ → Verdict
-judged F E points records rows = fitting (length F) (length E) points records rows (plain F (quads E) (late (quads E) (length F / 3)))
+judged F E points records rows = fitting (length F) (length E) points records rows (plain F (quads E) (late (quads E) (length F / pointWidth)))
 
 -- an initial vertex: its colour, then 4294967295 (01, "The tables")
 abbrev pub initial : ℕ → Record
@@ -34,7 +34,7 @@ initial colour = record { first = colour; second = 4294967295 }
 -- the opened mesh: the points as given, the colours of Algorithm 2, the rows of Definition 2
 unfoldable pub openedMesh : List Float → Cells → Mesh
 openedMesh F E =
-    let vertices = length F / 3 in
+    let vertices = length F / pointWidth in
     let cs = colours E vertices in
     record {
       points = upTo (pointAt F) vertices;
@@ -70,6 +70,6 @@ lent points records rows = record { points = points; records = records; rows = r
 
 -- The promise of opening F and E into the lent tables t: the answer r, and the tables t' afterwards.
 pub record Opens (F : List Float) (E : List ℕ) (t : Lent) (r : Opened) (t' : Lent) : Type 0 where
-  pub answers : r ≡ answer (verdictOn F E t) (length F / 3) (length E / 4)
-  pub reports : reported r ≡ report (verdictOn F E t) (length F / 3) (length E / 4)
+  pub answers : r ≡ answer (verdictOn F E t) (length F / pointWidth) (length E / 4)
+  pub reports : reported r ≡ report (verdictOn F E t) (length F / pointWidth) (length E / 4)
   pub leaves : t' ≡ tables (verdictOn F E t) F E t

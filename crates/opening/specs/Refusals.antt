@@ -4,6 +4,7 @@ use mathlib.Core.List.{List, [], _∷_}
 use Prim.Native.Nat.{ℕ, _/_}
 use lib.ListN.{length}
 use lib.Ieee.{Float}
+use Rattle.tables.specs.Layout.{pointWidth}
 use Rattle.tables.specs.Mesh.{Lent}
 use Rattle.intake.specs.Cells.{quads}
 use Rattle.intake.specs.Causes.{wrongInput, wrongLent, noRoom, unusable, missing, double, same, third}
@@ -19,7 +20,7 @@ pub record Cause : Type 0 where
 -- numbers 1 to 8 in the order of the tests; 1 and 2 are of the input as a whole, with place 0, 3 and 8 of a vertex and the others of an element (01, "What comes back")
 abbrev pub causes : List Float → List ℕ → ℕ → ℕ → ℕ → List Cause
 causes F E points records rows =
-    let vertices = length F / 3 in
+    let vertices = length F / pointWidth in
     let elements = length E / 4 in
     let C = quads E in
     record { number = 1; places = 1; present = λ p. wrongInput (length F) (length E) || wrongLent points records rows }

@@ -7,6 +7,7 @@ use Prim.Native.Nat.{ℕ, zero, suc, _+_, _*_, _/_, _%_, _≤_, _<_, max}
 use lib.Dec.{eqb, ltb, leb}
 use lib.ListN.{length, getD, set, replicate}
 use lib.Ieee.{Float}
+use Rattle.tables.specs.Layout.{mostRows, mostVertices, pointWidth, recordWidth, rowWidth}
 use Rattle.chain.specs.Chain.{Indexed}
 use Rattle.intake.specs.declared.answer.Found.{Found}
 use Rattle.intake.specs.declared.answer.Found.the-variants.{Nowhere}
@@ -22,10 +23,10 @@ use Rattle.intake.specs.Causes.{vertex, has, before, same, third}
 use Rattle.opening.specs.Colours.{taken, colours, garish}
 
 abbrev pub linksAt : ℕ
-linksAt = 20000
+linksAt = mostVertices
 
 abbrev pub paintLength : ℕ
-paintLength = 20000
+paintLength = mostVertices
 
 -- the key of corner slot i: four slots an element
 abbrev pub slot : Cells → ℕ → ℕ
@@ -33,17 +34,17 @@ slot E i = vertex E (i / 4) (i % 4)
 
 -- elements that passed tests 1, 2, 4 and 5
 pub record Plain (vertices : ℕ) (E : Cells) : Type 0 where
-  pub few : E .count ≤ 100000
-  pub most : vertices ≤ 20000
+  pub few : E .count ≤ mostRows
+  pub most : vertices ≤ mostVertices
   pub there : (k q : ℕ) → k < E .count → q < 4 → vertex E k q < vertices
   pub apart : (k p q : ℕ) → k < E .count → p < 4 → q < 4 → vertex E k p ≡ vertex E k q → p ≡ q
 
 -- lengths that passed tests 1 and 2
 pub record Roomy (coordinates elements points records rows : ℕ) : Type 0 where
-  pub whole : (coordinates / 3) * 3 ≡ coordinates
-  pub points-fit : 3 * (coordinates / 3) ≤ points
-  pub records-fit : 2 * (coordinates / 3) ≤ records
-  pub rows-fit : 8 * (elements / 4) ≤ rows
+  pub whole : (coordinates / pointWidth) * 3 ≡ coordinates
+  pub points-fit : pointWidth * (coordinates / pointWidth) ≤ points
+  pub records-fit : recordWidth * (coordinates / pointWidth) ≤ records
+  pub rows-fit : rowWidth * (elements / 4) ≤ rows
 
 -- an index with room for all corner slots that has the first n of them
 pub record Filled (E : Cells) (n : ℕ) (table : List ℕ) : Type 0 where
@@ -71,10 +72,10 @@ pub record Other (m r : ℕ) : Type 0 where
 
 -- counts that one more element leaves in range
 pub record Few (s : Seen) : Type 0 where
-  pub all : s .all ≤ 400000
-  pub ab : s .ab ≤ 400000
-  pub ac : s .ac ≤ 400000
-  pub bc : s .bc ≤ 400000
+  pub all : s .all ≤ 4 * mostRows
+  pub ab : s .ab ≤ 4 * mostRows
+  pub ac : s .ac ≤ 4 * mostRows
+  pub bc : s .bc ≤ 4 * mostRows
 
 -- 1 where the test holds
 abbrev pub one : Bool → ℕ
@@ -164,8 +165,8 @@ pub record Judged (vertices : ℕ) (E : Cells) (r : Verdict) (paint : List ℕ) 
 
 -- an input within capacity
 pub record Moderate (coordinates elements : ℕ) : Type 0 where
-  pub few-coordinates : coordinates ≤ 60000
-  pub few-elements : elements ≤ 100000
+  pub few-coordinates : coordinates ≤ pointWidth * mostVertices
+  pub few-elements : elements ≤ mostRows
 
 -- and an index for it that has no slot yet
 pub record Given (coordinates : ℕ) (E : Cells) (index : List ℕ) : Type 0 where
@@ -174,16 +175,16 @@ pub record Given (coordinates : ℕ) (E : Cells) (index : List ℕ) : Type 0 whe
 
 -- the verdict of tests 3 to 8; where they pass, the elements are plain and all colours stand in the table
 pub record Passing (F : List Float) (E : Cells) (r : Verdict) (paint : List ℕ) : Type 0 where
-  pub answer : r ≡ plain F E (late E (length F / 3))
+  pub answer : r ≡ plain F E (late E (length F / pointWidth))
   pub size : length paint ≡ paintLength
-  pub plain : r ≡ Passed → Plain (length F / 3) E
-  pub painted : r ≡ Passed → Painted E (length F / 3) paint
+  pub plain : r ≡ Passed → Plain (length F / pointWidth) E
+  pub painted : r ≡ Passed → Painted E (length F / pointWidth) paint
 
 -- all that storing the opened mesh relies on
 pub record Storable (F : List Float) (E paint : List ℕ) (points records rows : ℕ) : Type 0 where
-  pub plain : Plain (length F / 3) (quads E)
+  pub plain : Plain (length F / pointWidth) (quads E)
   pub size : length paint ≡ paintLength
-  pub painted : Painted (quads E) (length F / 3) paint
+  pub painted : Painted (quads E) (length F / pointWidth) paint
   pub room : Roomy (length F) (length E) points records rows
 
 -- the verdict of all tests; where they pass, the input is plain and all colours stand in the table

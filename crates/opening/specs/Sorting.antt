@@ -1,5 +1,6 @@
 -- Vertices on their way into a row, with their colours in the table. Nothing here is promised to callers.
 use Prim.Native.Nat.{ℕ, _<_}
+use Rattle.tables.specs.Layout.{mostVertices}
 use Rattle.split.specs.Split.{Corners, corners}
 use Rattle.opening.specs.declared.order.Two.{Two}
 use Rattle.opening.specs.declared.order.Four.{Four}
@@ -13,7 +14,7 @@ inOrder f a b = record { low = lower f a b; high = upper f a b }
 
 -- vertex numbers that the table has a colour for
 pub record Low (w : Four) : Type 0 where
-  pub a : w .a < 20000
-  pub b : w .b < 20000
-  pub c : w .c < 20000
-  pub d : w .d < 20000
+  pub a : w .a < mostVertices
+  pub b : w .b < mostVertices
+  pub c : w .c < mostVertices
+  pub d : w .d < mostVertices

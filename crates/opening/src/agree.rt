@@ -17,6 +17,7 @@ ghost use mathlib.Core.Path.{_≡_};
 ghost use mathlib.Core.Bool.{true, _&&_};
 ghost use Prim.Native.Nat.{_≤_};
 ghost use lib.ListN.{length, replicate};
+ghost use Rattle.tables.specs.Layout.{mostVertices};
 ghost use Rattle.intake.specs.Cells.{gridOf, cells};
 ghost use Rattle.opening.specs.Agree.{sameRecord, recordsAgree, rowsAgree, agreed, workable};
 ghost use Rattle.opening.specs.Scratch.{Plain, colourIn, paintLength, Given};
@@ -32,7 +33,7 @@ fn same_record(a: Record, b: Record) -> bool
 
 fn records_agree(paint: &[u32], vertices: usize, records: &[u32]) -> bool
     requires { ⌜ length (now paint) ≡ paintLength ⌝ }
-    requires { ⌜ vertices ≤ 20000 ⌝ }
+    requires { ⌜ vertices ≤ mostVertices ⌝ }
     ensures { λ r. ⌜ r ≡ recordsAgree (colourIn (now (paint .entry))) (now (records .entry)) vertices ⌝ }
 {
     let mut v = 0usize;
@@ -46,7 +47,14 @@ fn records_agree(paint: &[u32], vertices: usize, records: &[u32]) -> bool
     true
 }
 
-fn rows_agree(elements: &[u32], grid: Grid, paint: &[u32], vertices: usize, n: u32, rows: &[u32]) -> bool
+fn rows_agree(
+    elements: &[u32],
+    grid: Grid,
+    paint: &[u32],
+    vertices: usize,
+    n: u32,
+    rows: &[u32],
+) -> bool
     requires { ⌜ Plain vertices (cells (now elements) grid) ⌝ }
     requires { ⌜ length (now paint) ≡ paintLength ⌝ }
     ensures { λ r. ⌜ r ≡ rowsAgree n (colourIn (now (paint .entry))) (cells (now (elements .entry)) grid) (now (rows .entry)) (grid .count) ⌝ }
@@ -80,7 +88,13 @@ fn is_workable(coordinates: usize, elements: usize, memory: usize) -> bool
 }
 
 // Whether opening passes tests 3 to 8, and gives the records and, but for the first child, the rows of the tables.
-fn compare(coordinates: &[f64], records: &[u32], rows: &[u32], count: usize, index: &mut [u32]) -> bool
+fn compare(
+    coordinates: &[f64],
+    records: &[u32],
+    rows: &[u32],
+    count: usize,
+    index: &mut [u32],
+) -> bool
     requires { ⌜ Given (length (now coordinates)) (cells (now rows) (gridOf true count)) (now index) ⌝ }
     ensures { λ r. ⌜ r ≡ agreed (now (coordinates .entry)) (cells (now (rows .entry)) (gridOf true count)) (now (records .entry)) (now (rows .entry)) ⌝ }
 {
@@ -102,7 +116,13 @@ fn compare(coordinates: &[f64], records: &[u32], rows: &[u32], count: usize, ind
 }
 
 // Whether opening these coordinates and the first rows of the tables afresh gives the records and, but for the first child, the rows of the tables. The index lies in lent memory, which is left all zero.
-pub fn agrees(coordinates: &[f64], records: &[u32], rows: &[u32], count: usize, index: &mut [u32]) -> bool
+pub fn agrees(
+    coordinates: &[f64],
+    records: &[u32],
+    rows: &[u32],
+    count: usize,
+    index: &mut [u32],
+) -> bool
     ensures { λ r. ⌜ r ≡ (workable (length (now (coordinates .entry))) count (length (now (index .entry))) && agreed (now (coordinates .entry)) (cells (now (rows .entry)) (gridOf true count)) (now (records .entry)) (now (rows .entry))) ⌝ }
     ensures { λ _. ⌜ now (index .exit) ≡ replicate (length (now (index .entry))) 0 ⌝ }
 {

@@ -1,23 +1,21 @@
 // Number 8 and the colours of Algorithm 2, in number order, through the index.
-use intake::grid::Grid;
-use intake::grid::vertex_at;
 use crate::index::LINKS;
 use chain::wide;
 use intake::answer::Found;
+use intake::grid::Grid;
+use intake::grid::vertex_at;
 ghost use mathlib.Core.Path.{_≡_};
 ghost use Prim.Native.Nat.{_<_, _≤_, min};
 ghost use lib.ListN.{length};
+ghost use Rattle.tables.specs.Layout.{mostVertices};
 ghost use Rattle.intake.specs.Cells.{cells};
 ghost use Rattle.opening.specs.Colours.{colourOf};
 ghost use Rattle.opening.specs.Scratch.{paintLength, Plain, Ready, Clear, Painted, Flags, Marks, marked, markedAll, unmarked, mostOf, Coloured};
 
-// The table of colours, one for each vertex.
-pub const PAINT: usize = 20000;
-
 // Marks the colour of u where it is smaller than v.
 fn mark(paint: &[u32], v: usize, u: usize, flags: &mut [u32])
     requires { ⌜ length (now paint) ≡ paintLength ⌝ }
-    requires { ⌜ u < 20000 ⌝ }
+    requires { ⌜ u < mostVertices ⌝ }
     ensures { λ _. ⌜ now (flags .exit) ≡ marked (now (paint .entry)) v u (now (flags .entry)) ⌝ }
 {
     if u < v {
@@ -91,7 +89,14 @@ fn first_free(flags: &[u32]) -> usize
 }
 
 // The colour of v, or 64 where it is over 63.
-fn colour_at(elements: &[u32], grid: Grid, index: &[u32], paint: &[u32], vertices: usize, v: usize) -> usize
+fn colour_at(
+    elements: &[u32],
+    grid: Grid,
+    index: &[u32],
+    paint: &[u32],
+    vertices: usize,
+    v: usize,
+) -> usize
     requires { ⌜ Plain vertices (cells (now elements) grid) ⌝ }
     requires { ⌜ Ready (cells (now elements) grid) (now index) ⌝ }
     requires { ⌜ Painted (cells (now elements) grid) v (now paint) ⌝ }
@@ -105,7 +110,13 @@ fn colour_at(elements: &[u32], grid: Grid, index: &[u32], paint: &[u32], vertice
 }
 
 // Colours the vertices in number order, up to the first whose colour is over 63.
-pub fn colour_all(elements: &[u32], grid: Grid, vertices: usize, index: &[u32], paint: &mut [u32]) -> Found
+pub fn colour_all(
+    elements: &[u32],
+    grid: Grid,
+    vertices: usize,
+    index: &[u32],
+    paint: &mut [u32],
+) -> Found
     requires { ⌜ Plain vertices (cells (now elements) grid) ⌝ }
     requires { ⌜ Ready (cells (now elements) grid) (now index) ⌝ }
     requires { ⌜ Clear (now paint) ⌝ }
@@ -126,7 +137,7 @@ pub fn colour_all(elements: &[u32], grid: Grid, vertices: usize, index: &[u32], 
 // The largest of the first colours.
 pub fn largest_colour(paint: &[u32], vertices: usize) -> u32
     requires { ⌜ length (now paint) ≡ paintLength ⌝ }
-    requires { ⌜ vertices ≤ 20000 ⌝ }
+    requires { ⌜ vertices ≤ mostVertices ⌝ }
     ensures { λ r. ⌜ r ≡ mostOf (now (paint .entry)) vertices ⌝ }
 {
     let mut most = 0u32;

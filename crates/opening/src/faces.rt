@@ -1,8 +1,8 @@
 // Numbers 6 and 7 at one element, through the index of the elements before it: the same four vertices before, a face in two elements before.
-use intake::grid::Grid;
-use intake::grid::vertex_at;
 use crate::index::LINKS;
 use chain::wide;
+use intake::grid::Grid;
+use intake::grid::vertex_at;
 ghost use mathlib.Core.Path.{_≡_};
 ghost use Prim.Native.Nat.{_*_, _/_, _<_, _+_};
 ghost use lib.ListN.{length};
@@ -112,7 +112,11 @@ fn rarer(elements: &[u32], grid: Grid, uses: &[u32], k: usize, p: usize, q: usiz
     requires { ⌜ q < 4 ⌝ }
     ensures { λ r. ⌜ Chosen p q r ⌝ }
 {
-    if used_less(uses, vertex_at(elements, grid, k, q), vertex_at(elements, grid, k, p)) {
+    if used_less(
+        uses,
+        vertex_at(elements, grid, k, q),
+        vertex_at(elements, grid, k, p),
+    ) {
         return q;
     }
     p
@@ -160,16 +164,37 @@ fn around(elements: &[u32], grid: Grid, index: &[u32], vertices: usize, k: usize
 }
 
 // Numbers 6 and 7 at element k: the chain of the vertex that is used least has all but the face opposite to it, and that of any other vertex has this face.
-pub fn meets(elements: &[u32], grid: Grid, index: &[u32], uses: &[u32], vertices: usize, k: usize) -> Met
+pub fn meets(
+    elements: &[u32],
+    grid: Grid,
+    index: &[u32],
+    uses: &[u32],
+    vertices: usize,
+    k: usize,
+) -> Met
     requires { ⌜ Plain vertices (cells (now elements) grid) ⌝ }
     requires { ⌜ Filled (cells (now elements) grid) (4 * k) (now index) ⌝ }
     requires { ⌜ k < grid .count ⌝ }
     ensures { λ r. ⌜ Meets (cells (now (elements .entry)) grid) k r ⌝ }
 {
-    let m = rarer(elements, grid, uses, k, 0, other(elements, grid, uses, k, 0));
+    let m = rarer(
+        elements,
+        grid,
+        uses,
+        k,
+        0,
+        other(elements, grid, uses, k, 0),
+    );
     let near = around(elements, grid, index, vertices, k, m);
     if near.third {
         return near;
     }
-    around(elements, grid, index, vertices, k, other(elements, grid, uses, k, m))
+    around(
+        elements,
+        grid,
+        index,
+        vertices,
+        k,
+        other(elements, grid, uses, k, m),
+    )
 }

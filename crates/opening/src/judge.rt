@@ -9,6 +9,7 @@ use intake::grid::Grid;
 use intake::judge_lengths;
 use intake::judge_numbers;
 use intake::verdict_at;
+use tables::layout::MOST_VERTICES;
 use tables::layout::POINT;
 ghost use mathlib.Core.Path.{_≡_};
 ghost use lib.ListN.{length};
@@ -37,7 +38,7 @@ fn sift(elements: &[u32], grid: Grid, vertices: usize, index: &mut [u32]) -> Ver
     ensures { λ r. ⌜ Sifted (cells (now (elements .entry)) grid) r (now (index .exit)) ⌝ }
 {
     let n = grid.count;
-    let mut uses = [0u32; 20000];
+    let mut uses = [0u32; MOST_VERTICES];
     let mut third = Found::Nowhere;
     let mut k = 0usize;
     while k < n {
@@ -56,7 +57,13 @@ fn sift(elements: &[u32], grid: Grid, vertices: usize, index: &mut [u32]) -> Ver
 }
 
 // Tests 6 to 8 through an index that has room for all corners.
-fn judge_late(elements: &[u32], grid: Grid, vertices: usize, index: &mut [u32], paint: &mut [u32]) -> Verdict
+fn judge_late(
+    elements: &[u32],
+    grid: Grid,
+    vertices: usize,
+    index: &mut [u32],
+    paint: &mut [u32],
+) -> Verdict
     requires { ⌜ Plain vertices (cells (now elements) grid) ⌝ }
     requires { ⌜ Filled (cells (now elements) grid) 0 (now index) ⌝ }
     requires { ⌜ Clear (now paint) ⌝ }

@@ -1,8 +1,10 @@
 // Opening a mesh: tests 1 to 8, the colours of Algorithm 2, the order of Definition 2, and the opened tables.
 use crate::answer::Opened;
-use crate::colours::PAINT;
 use intake::answer::Verdict;
+use intake::grid::CORNERS;
 use intake::grid::Grid;
+use tables::layout::MOST_VERTICES;
+use tables::layout::POINT;
 use tables::layout::started;
 
 pub mod agree;
@@ -33,10 +35,10 @@ fn store_all(
     requires { ⌜ Storable (now coordinates) (now elements) (now paint) (length (now points)) (length (now records)) (length (now rows)) ⌝ }
     ensures { λ _. ⌜ lent (now (points .exit)) (now (records .exit)) (now (rows .exit)) ≡ laid (openedMesh (now (coordinates .entry)) (quads (now (elements .entry)))) (length (now (points .entry))) (length (now (records .entry))) (length (now (rows .entry))) ⌝ }
 {
-    let vertices = coordinates.len() / 3;
+    let vertices = coordinates.len() / POINT;
     let grid = Grid {
         rows: false,
-        count: elements.len() / 4,
+        count: elements.len() / CORNERS,
     };
     let most = colours::largest_colour(paint, vertices);
     store::store_points(coordinates, points);
@@ -54,7 +56,7 @@ pub fn open(
 ) -> Opened
     ensures { λ r. ⌜ Opens (now (coordinates .entry)) (now (elements .entry)) (lent (now (points .entry)) (now (records .entry)) (now (rows .entry))) r (lent (now (points .exit)) (now (records .exit)) (now (rows .exit))) ⌝ }
 {
-    let mut paint = [0u32; PAINT];
+    let mut paint = [0u32; MOST_VERTICES];
     let verdict = judge::judge(
         coordinates,
         elements,
@@ -67,5 +69,5 @@ pub fn open(
         return Opened::Refused { number, place };
     }
     store_all(coordinates, elements, &paint, points, records, rows);
-    Opened::Done(started(coordinates.len() / 3, elements.len() / 4))
+    Opened::Done(started(coordinates.len() / POINT, elements.len() / CORNERS))
 }

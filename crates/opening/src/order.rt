@@ -6,6 +6,7 @@ use split::row::root;
 ghost use mathlib.Core.Path.{_≡_};
 ghost use Prim.Native.Nat.{_<_};
 ghost use lib.ListN.{length};
+ghost use Rattle.tables.specs.Layout.{mostVertices};
 ghost use Rattle.intake.specs.Cells.{cells};
 ghost use Rattle.split.specs.Split.{three};
 ghost use Rattle.forest.specs.Start.{arranged};
@@ -28,7 +29,7 @@ pub struct Four {
 
 fn colour_in(paint: &[u32], v: u32) -> u32
     requires { ⌜ length (now paint) ≡ paintLength ⌝ }
-    requires { ⌜ v < 20000 ⌝ }
+    requires { ⌜ v < mostVertices ⌝ }
     ensures { λ r. ⌜ r ≡ colourIn (now (paint .entry)) v ⌝ }
 {
     paint[v as usize]
@@ -36,8 +37,8 @@ fn colour_in(paint: &[u32], v: u32) -> u32
 
 fn pair(paint: &[u32], a: u32, b: u32) -> Two
     requires { ⌜ length (now paint) ≡ paintLength ⌝ }
-    requires { ⌜ a < 20000 ⌝ }
-    requires { ⌜ b < 20000 ⌝ }
+    requires { ⌜ a < mostVertices ⌝ }
+    requires { ⌜ b < mostVertices ⌝ }
     ensures { λ r. ⌜ r ≡ inOrder (colourIn (now (paint .entry))) a b ⌝ }
 {
     let x = colour_in(paint, a);
@@ -84,7 +85,14 @@ fn arrange(paint: &[u32], n: u32, w: Four) -> Four
 }
 
 // Row k of the opened mesh, N being the largest colour.
-pub fn root_row(elements: &[u32], grid: Grid, paint: &[u32], vertices: usize, n: u32, k: usize) -> Row
+pub fn root_row(
+    elements: &[u32],
+    grid: Grid,
+    paint: &[u32],
+    vertices: usize,
+    n: u32,
+    k: usize,
+) -> Row
     requires { ⌜ Plain vertices (cells (now elements) grid) ⌝ }
     requires { ⌜ length (now paint) ≡ paintLength ⌝ }
     requires { ⌜ k < grid .count ⌝ }

@@ -3,12 +3,13 @@ use crate::order::root_row;
 use chain::clear;
 use intake::grid::Grid;
 use tables::layout::INITIAL;
+use tables::layout::POINT;
 use tables::record::Record;
 ghost use mathlib.Core.Path.{_≡_};
 ghost use Prim.Native.Nat.{ℕ, _*_, _/_, _≤_, _<_};
 ghost use lib.ListN.{length, replicate};
 ghost use Rattle.intake.specs.Cells.{cells};
-ghost use Rattle.tables.specs.Layout.{noFloat, pointAt, pointCells, recordCells, rowCells};
+ghost use Rattle.tables.specs.Layout.{noFloat, pointAt, pointCells, recordCells, rowCells, mostVertices, pointWidth, recordWidth, rowWidth};
 ghost use Rattle.tables.specs.Mesh.{padded, flat, upTo};
 ghost use Rattle.opening.specs.Opening.{initial};
 ghost use Rattle.opening.specs.Order.{rootOf};
@@ -26,11 +27,11 @@ fn clear_floats(table: &mut [f64])
 }
 
 pub fn store_points(coordinates: &[f64], points: &mut [f64])
-    requires { ⌜ 3 * (length (now coordinates) / 3) ≤ length (now points) ⌝ }
-    ensures { λ _. ⌜ now (points .exit) ≡ padded (length (now (points .entry))) noFloat (flat pointCells (upTo (pointAt (now (coordinates .entry))) (length (now (coordinates .entry)) / 3))) ⌝ }
+    requires { ⌜ pointWidth * (length (now coordinates) / pointWidth) ≤ length (now points) ⌝ }
+    ensures { λ _. ⌜ now (points .exit) ≡ padded (length (now (points .entry))) noFloat (flat pointCells (upTo (pointAt (now (coordinates .entry))) (length (now (coordinates .entry)) / pointWidth))) ⌝ }
 {
     clear_floats(points);
-    let n = coordinates.len() / 3;
+    let n = coordinates.len() / POINT;
     let mut v = 0usize;
     while v < n {
         tables::point::write(points, v, tables::point::read(coordinates, v));
@@ -40,7 +41,7 @@ pub fn store_points(coordinates: &[f64], points: &mut [f64])
 
 pub fn initial_record(paint: &[u32], v: usize) -> Record
     requires { ⌜ length (now paint) ≡ paintLength ⌝ }
-    requires { ⌜ v < 20000 ⌝ }
+    requires { ⌜ v < mostVertices ⌝ }
     ensures { λ r. ⌜ r ≡ initial (colourIn (now (paint .entry)) v) ⌝ }
 {
     Record {
@@ -51,8 +52,8 @@ pub fn initial_record(paint: &[u32], v: usize) -> Record
 
 pub fn store_records(paint: &[u32], vertices: usize, records: &mut [u32])
     requires { ⌜ length (now paint) ≡ paintLength ⌝ }
-    requires { ⌜ vertices ≤ 20000 ⌝ }
-    requires { ⌜ 2 * vertices ≤ length (now records) ⌝ }
+    requires { ⌜ vertices ≤ mostVertices ⌝ }
+    requires { ⌜ recordWidth * vertices ≤ length (now records) ⌝ }
     ensures { λ _. ⌜ now (records .exit) ≡ padded (length (now (records .entry))) 0 (flat recordCells (upTo (λ (v : ℕ). initial (colourIn (now (paint .entry)) v)) vertices)) ⌝ }
 {
     clear(records);
@@ -63,10 +64,17 @@ pub fn store_records(paint: &[u32], vertices: usize, records: &mut [u32])
     }
 }
 
-pub fn store_rows(elements: &[u32], grid: Grid, paint: &[u32], vertices: usize, n: u32, rows: &mut [u32])
+pub fn store_rows(
+    elements: &[u32],
+    grid: Grid,
+    paint: &[u32],
+    vertices: usize,
+    n: u32,
+    rows: &mut [u32],
+)
     requires { ⌜ Plain vertices (cells (now elements) grid) ⌝ }
     requires { ⌜ length (now paint) ≡ paintLength ⌝ }
-    requires { ⌜ 8 * (grid .count) ≤ length (now rows) ⌝ }
+    requires { ⌜ rowWidth * (grid .count) ≤ length (now rows) ⌝ }
     ensures { λ _. ⌜ now (rows .exit) ≡ padded (length (now (rows .entry))) 0 (flat rowCells (upTo (rootOf n (colourIn (now (paint .entry))) (cells (now (elements .entry)) grid)) (grid .count))) ⌝ }
 {
     clear(rows);

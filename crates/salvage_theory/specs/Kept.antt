@@ -2,6 +2,7 @@
 use mathlib.Core.Path.{_≡_}
 use mathlib.Core.List.{List, [], _∷_, _++_}
 use Prim.Native.Nat.{ℕ, suc, _+_, _≤_, _<_}
+use Rattle.tables.specs.Layout.{mostRows, mostVertices}
 use Rattle.split.specs.Split.{Side}
 use Rattle.split.specs.Row.{pair, edgeOf, childOf}
 use Rattle.tables.specs.Mesh.{Mesh}
@@ -11,8 +12,8 @@ use Rattle.sound.specs.Forest.{grown}
 
 -- "the leading initial vertices and roots intact": the leading i records and t rows that look so, and opening them afresh gives the same (02, L13 and its 22)
 pub record Intact (m : Mesh) (i t : ℕ) : Type 0 where
-  pub vertices-few : vertices m ≤ 20000
-  pub rows-few : rows m ≤ 100000
+  pub vertices-few : vertices m ≤ mostVertices
+  pub rows-few : rows m ≤ mostRows
   pub vertices-in : i ≤ vertices m
   pub rows-in : t ≤ rows m
   pub initial : (v : ℕ) → v < i → recordOf m v .second ≡ 4294967295

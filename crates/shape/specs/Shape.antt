@@ -10,7 +10,7 @@ use Rattle.split.specs.Split.{Side, far}
 use Rattle.split.specs.Row.{childOf, cornersOf, tagOf}
 use Rattle.tables.specs.declared.layout.Counts.{Counts}
 use Rattle.tables.specs.Mesh.{Mesh, Unused}
-use Rattle.tables.specs.Layout.{recordAt, rowAt, rowWidth}
+use Rattle.tables.specs.Layout.{recordAt, rowAt, rowWidth, mostRows, mostVertices}
 use Rattle.sound.specs.Sound.{rows, rowOf, childless, place, Child, Parent, Fitting}
 use Rattle.sound.specs.Check.{Decides, lent, bare}
 use Rattle.shape.specs.declared.answer.Shape.{Shape}
@@ -19,8 +19,8 @@ use Rattle.shape.specs.declared.answer.Shape.the-variants.{Not, Runs}
 -- the rows are within their table, and the counts within the largest room
 pub record Inside (r w : List ℕ) (c : Counts) : Type 0 where
   pub rows-fit : rowWidth * c .rows ≤ length w
-  pub few-vertices : c .vertices ≤ 20000
-  pub few-rows : c .rows ≤ 100000
+  pub few-vertices : c .vertices ≤ mostVertices
+  pub few-rows : c .rows ≤ mostRows
 
 -- i is where the leading run of initial vertices ends
 pub record Initials (r : List ℕ) (n i : ℕ) : Type 0 where

@@ -3,6 +3,7 @@ use crate::family::children_follow;
 use chain::wide;
 use split::row::across;
 use tables::layout::Counts;
+use tables::layout::MOST_VERTICES;
 ghost use mathlib.Core.Path.{_≡_};
 ghost use Prim.Native.Nat.{ℕ, _≤_, _<_};
 ghost use lib.ListN.{length, getD};
@@ -37,7 +38,7 @@ pub fn children_fit(records: &[u32], rows: &[u32], c: Counts, i: usize, t: usize
     requires { ⌜ Inside (now records) (now rows) c ⌝ }
     ensures { λ r. ⌜ Decides (Bred (now (records .entry)) (now (rows .entry)) c i t) r ⌝ }
 {
-    let mut flags = [0u32; 20000];
+    let mut flags = [0u32; MOST_VERTICES];
     if !children_follow(records, rows, c, i, t, &mut flags) {
         return false;
     }

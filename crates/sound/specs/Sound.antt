@@ -61,7 +61,7 @@ rootCells m t = elementsOf (take t (m .rows)) t
 
 pub record Afresh (m : Mesh) (i t : ℕ) : Type 0 where
   pub some : 1 ≤ t
-  pub opens : plain (givenPoints m i) (rootCells m t) (late (rootCells m t) (length (givenPoints m i) / 3)) ≡ Passed
+  pub opens : plain (givenPoints m i) (rootCells m t) (late (rootCells m t) (length (givenPoints m i) / pointWidth)) ≡ Passed
   pub colours : openedMesh (givenPoints m i) (rootCells m t) .records ≡ take i (m .records)
   pub rows : openedMesh (givenPoints m i) (rootCells m t) .rows ≡ map childless (take t (m .rows))
 

@@ -4,7 +4,7 @@ use mathlib.Core.List.{List, [], _∷_, map}
 use Prim.Native.Nat.{ℕ, _*_, _≤_}
 use lib.ListN.{length, take}
 use Rattle.split.specs.declared.row.Row.{Row}
-use Rattle.tables.specs.Layout.{pointWidth, recordWidth, rowWidth}
+use Rattle.tables.specs.Layout.{pointWidth, recordWidth, rowWidth, mostRows, mostVertices}
 use Rattle.tables.specs.Mesh.{Mesh, flat}
 use Rattle.intake.specs.Cells.{quads}
 use Rattle.intake.specs.declared.answer.Verdict.the-variants.{Passed}
@@ -25,7 +25,7 @@ pub record OpensAfresh (m : Mesh) (i t : ℕ) : Type 0 where
 
 -- as clauses 1 and 2 have it: the initial vertices and the roots are there, within capacity
 pub record Moderate (m : Mesh) (i t : ℕ) : Type 0 where
-  pub few-vertices : i ≤ 20000
-  pub few-rows : t ≤ 100000
+  pub few-vertices : i ≤ mostVertices
+  pub few-rows : t ≤ mostRows
   pub points-in : i ≤ length (m .points)
   pub rows-in : t ≤ rows m

@@ -11,7 +11,7 @@ use Rattle.split.specs.Midpoint.{between}
 use Rattle.chain.specs.Chain.{Indexed}
 use Rattle.tables.specs.declared.layout.Counts.{Counts}
 use Rattle.tables.specs.Mesh.{Lent, meshOf, Unused}
-use Rattle.tables.specs.Layout.{pointAt, recordAt, rowAt}
+use Rattle.tables.specs.Layout.{pointAt, recordAt, rowAt, mostRows, mostVertices}
 use Rattle.sound.specs.Sound.{Afresh, Fitting, Sound}
 use Rattle.sound.specs.Check.{Decides, lent, bare}
 use Rattle.shape.specs.Shape.{Children, Parents, middleAt}
@@ -25,7 +25,7 @@ pub record Ruled (p : List Float) (r : List ℕ) (v : ℕ) : Type 0 where
 -- vertices from i on, below n, for which the index has room
 pub record Run (i n : ℕ) : Type 0 where
   pub order : i ≤ n
-  pub few : n ≤ 20000
+  pub few : n ≤ mostVertices
 
 -- the keys of the index; its links come after as many heads
 abbrev pub heads : ℕ
@@ -57,7 +57,7 @@ AllSingle r i n = (v : ℕ) → i ≤ v → v < n → Single r i v
 
 -- a scratch table with room for an index of 20,000 places, and no head set
 pub record Fresh (scratch : List ℕ) : Type 0 where
-  pub size : 100000 ≤ length scratch
+  pub size : heads + mostVertices ≤ length scratch
   pub clear : (v : ℕ) → v < heads → getD scratch v 0 ≡ 0
 
 -- the answer b: no pair stands twice, and then all are in the index
@@ -107,7 +107,7 @@ pub record Rest (p : List Float) (r w : List ℕ) (c : Counts) (i : ℕ) : Type 
 
 -- how many numbers are enough for the check of so many rows: the index of pairs has 80,000 heads and 20,000 links, that of opening a head for each vertex and four links for each root
 abbrev pub memoryFor : ℕ → ℕ
-memoryFor rows = max 100000 (20000 + 4 * min 100000 rows)
+memoryFor rows = max (heads + mostVertices) (mostVertices + 4 * min mostRows rows)
 
 -- so many numbers are enough, and the tables are sound
 pub record SoundIn (memory : ℕ) (t : Lent) (c : Counts) : Type 0 where

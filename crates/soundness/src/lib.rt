@@ -54,13 +54,7 @@ fn is_enough(c: Counts, memory: usize) -> bool
 }
 
 // The same in memory that the caller lends and has a further use for; it is left all zero. Memory that is not enough is answered by no.
-pub fn check_in(
-    points: &[f64],
-    records: &[u32],
-    rows: &[u32],
-    c: Counts,
-    work: &mut [u32],
-) -> bool
+pub fn check_in(points: &[f64], records: &[u32], rows: &[u32], c: Counts, work: &mut [u32]) -> bool
     ensures { λ r. ⌜ Decides (SoundIn (length (now (work .entry))) (lent (now (points .entry)) (now (records .entry)) (now (rows .entry))) c) r ⌝ }
     ensures { λ _. ⌜ now (work .exit) ≡ replicate (length (now (work .entry))) 0 ⌝ }
 {

@@ -5,6 +5,7 @@ use tables::layout::MOST_VERTICES;
 use tables::layout::POINT;
 ghost use Prim.Native.Nat.{_+_, _*_, _≤_};
 ghost use lib.ListN.{length};
+ghost use Rattle.tables.specs.Layout.{mostVertices};
 ghost use Rattle.tables.specs.Mesh.{meshOf};
 ghost use Rattle.sound.specs.Sound.{Afresh, Fitting};
 ghost use Rattle.sound.specs.Check.{Decides, lent};
@@ -21,7 +22,7 @@ pub fn afresh(
 ) -> bool
     requires { ⌜ Fitting (lent (now points) (now records) (now rows)) c ⌝ }
     requires { ⌜ (i ≤ c .vertices) × (t ≤ c .rows) ⌝ }
-    requires { ⌜ 20000 + 4 * t ≤ length (now scratch) ⌝ }
+    requires { ⌜ mostVertices + 4 * t ≤ length (now scratch) ⌝ }
     ensures { λ r. ⌜ Decides (Afresh (meshOf (lent (now (points .entry)) (now (records .entry)) (now (rows .entry))) c) i t) r ⌝ }
 {
     let last = POINT * i;

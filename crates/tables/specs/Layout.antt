@@ -22,6 +22,13 @@ recordWidth = 2
 abbrev pub rowWidth : ℕ
 rowWidth = 8
 
+-- at most so many vertices and rows (01, "The tables")
+abbrev pub mostVertices : ℕ
+mostVertices = 20000
+
+abbrev pub mostRows : ℕ
+mostRows = 100000
+
 -- a table's numbers, in their order
 abbrev pub pointCells : Point → List Float
 pointCells p = p .x ∷ p .y ∷ p .z ∷ []
@@ -101,7 +108,7 @@ sized vertices rows = record { vertices = vertices; rows = rows }
 
 -- room is at most 20,000 vertices, the smaller of what the coordinate and vertex tables hold, and 100,000 rows (01, "The tables")
 unfoldable pub roomOf : ℕ → ℕ → ℕ → Size
-roomOf points records rows = sized (min 20000 (min (points / pointWidth) (records / recordWidth))) (min 100000 (rows / rowWidth))
+roomOf points records rows = sized (min mostVertices (min (points / pointWidth) (records / recordWidth))) (min mostRows (rows / rowWidth))
 
 -- an element shown: four numbers from eight times the row, or the empty part (01, "What comes back")
 unfoldable pub shown : List ℕ → ℕ → ℕ → List ℕ

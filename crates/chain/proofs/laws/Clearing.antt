@@ -2,9 +2,10 @@
 use mathlib.Core.Path.{_≡_, refl, sym, _∙_}
 use mathlib.Core.List.{List}
 use Prim.Native.Nat.{ℕ, _+_, _≤_, _<_}
+use native.Mathlib.Decide.{decLe}
 use native.Mathlib.Numerals.{add-one}
 use native.Mathlib.Omega.{arith}
-use lib.ListN.{length, take, set, replicate, length-set, replicate-append-replicate}
+use lib.ListN.{length, getD, take, set, replicate, length-set, length-replicate, getD-replicate, replicate-append-replicate, List·getD-eq-default}
 use lib.Seq.{take-all, take-suc-set}
 
 -- the first i numbers of a table are set to z
@@ -28,3 +29,11 @@ module _ {A : Type 0} {z : A} where
   clear-end {size} {i} {now} c h =
       let e : i ≡ size = omega arith in
       sym (take-all i now (rw (c .length-is) h)) ∙ c .front ∙ rw e
+
+-- what stands in a table of zeros, and past its end
+pub zeros-at : (n i : ℕ) → _≡_ {A = ℕ} (getD (replicate n 0) i 0) 0
+zeros-at n i = go (decLe n i)
+  where
+    go : Dec (n ≤ i) → _≡_ {A = ℕ} (getD (replicate n 0) i 0) 0
+    go (yes h) = List·getD-eq-default (replicate n 0) 0 {n = i} (rw length-replicate h)
+    go (no h) = getD-replicate n i 0 0 (omega arith)

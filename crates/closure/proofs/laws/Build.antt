@@ -9,7 +9,7 @@ use Rattle.split.specs.Row.{cornersOf}
 use Rattle.chain.specs.Chain.{Indexed, pushed}
 use Rattle.chain.proofs.laws.Pushed.{pushed-length}
 use Rattle.chain.proofs.laws.Index.{indexed-none, indexed-push-one}
-use Rattle.tables.specs.Layout.{rowAt}
+use Rattle.tables.specs.Layout.{rowAt, mostRows}
 use Rattle.closure.specs.State.{corner, linksAt, cornersPushed, rowPushed, State}
 use Rattle.closure.specs.Build.{Indexable}
 use Rattle.closure.proofs.laws.Index.{corner-row, scratch-holds, corners-length, rowPushed-length}
@@ -46,7 +46,7 @@ module _ {w s₀ : List ℕ} {n : ℕ} (x : Indexable w s₀ n) where
   unfolding rowPushed
   row-added k s h e i = row-counted-indexed (cornersPushed s k (rowAt w k)) (rowAt w k) (rw (corners-length w s k (rowAt w k), e) (omega (arith, holds))) (corners-added k s h e i)
 
-  pub building-room : {s : List ℕ} {k : ℕ} → Building w s₀ s n k → k < n → k < 100000
+  pub building-room : {s : List ℕ} {k : ℕ} → Building w s₀ s n k → k < n → k < mostRows
   building-room b h = omega (arith, x .few)
 
   pub building-next : {s s' : List ℕ} {k : ℕ} → Building w s₀ s n k → k < n → s' ≡ rowPushed s k (rowAt w k) → Building w s₀ s' n (k + 1)

@@ -6,22 +6,23 @@ use mathlib.Core.Logic.{_⊎_, inl, inr}
 use Prim.Native.Nat.{ℕ, _-_, _/_, _≤_, _<_}
 use native.Mathlib.Omega.{arith}
 use lib.Dec.{leb, ltb}
-use lib.ListN.{length, getD, drop}
+use lib.ListN.{length, getD, drop, replicate, length-replicate}
 use lib.Ieee.{Float}
 use borrow.Author.Tests.{le-leb, lt-leb, lt-ltb, le-ltb, not-true, not-false}
 use Rattle.split.proofs.laws.Places.{le-or-lt}
 use Rattle.tables.specs.declared.layout.Counts.{Counts}
 use Rattle.tables.specs.declared.layout.Size.{Size}
-use Rattle.tables.specs.Layout.{recordWidth, noRow, noRecord, noFloat, pointCells, recordCells, rowCells, pointAt, recordAt, rowAt, roomOf, resized}
+use Rattle.tables.specs.Layout.{recordWidth, rowWidth, noRow, noRecord, noFloat, pointCells, recordCells, rowCells, pointAt, recordAt, rowAt, roomOf, resized}
 use Rattle.tables.specs.Mesh.{Lent, meshOf, laid, upTo, flat, padded}
 use Rattle.tables.proofs.laws.View.{length-up-to, up-to-at}
 use Rattle.intake.specs.declared.answer.Found.the-variants.{Nowhere}
 use Rattle.intake.specs.declared.answer.Verdict.{Verdict}
 use Rattle.intake.specs.declared.answer.Verdict.the-variants as verdict
 use Rattle.intake.specs.Search.{first}
+use Rattle.chain.proofs.laws.Clearing.{zeros-at}
 use Rattle.sound.specs.Sound.{Sound}
 use Rattle.sound.specs.Check.{Decides, lent}
-use Rattle.soundness.specs.Check.{Cleared}
+use Rattle.soundness.specs.Check.{SoundIn}
 use Rattle.run.specs.Skeleton.{meshed, extended}
 use Rattle.run.specs.Run.{RunAll, Within}
 use Rattle.run.proofs.laws.Grows.{Grows}
@@ -40,7 +41,7 @@ use Rattle.closure.specs.State.{rowsOf, recordsOf, seen, scratchFor, Sta
 use Rattle.closure.specs.Build.{Indexable}
 use Rattle.closure.specs.Marking.{AllDue, Ended, Failed, Marks}
 use Rattle.closure.specs.Refine.{absent, reported, Accepts, outgrown, fits, deep, shallow, missing, present, Refines, unsound, sound}
-use Rattle.closure.specs.Call.{Finishes, Closable, Closes, Callable, Calls}
+use Rattle.closure.specs.Call.{Finishes, Closable, Closes, Spacious, Callable, Calls}
 use Rattle.closure.proofs.laws.Tables.{rows-same, records-same}
 use Rattle.closure.proofs.laws.Blank.{rows-blank, records-blank, points-blank, rows-padded, records-padded, points-padded}
 use Rattle.closure.proofs.laws.Restored.{restored-row}
@@ -267,7 +268,7 @@ module _ {p : List Float} {r w s₀ s : List ℕ} {c : Counts} (x : Spacious (le
   refine-sound e g = let y = d .0 .yes (not-false b e) .sound in sound y (g .judged y)
 
   pub refine-callable : not b ≡ false → Callable p r w s c
-  refine-callable e = record { sound = d .0 .yes (not-false b e) .sound; fresh = record { size = rw (d .1, length-replicate {A = ℕ} (length s₀) 0) (x .closure); heads = λ v h. rw (d .1) (zero-at (length s₀) v) } }
+  refine-callable e = record { sound = d .0 .yes (not-false b e) .sound; fresh = record { size = rw (d .1, length-replicate {A = ℕ} (length s₀) 0) (x .closure); heads = λ v h. rw (d .1) (zeros-at (length s₀) v) } }
 
 pub ruleset wholly = (refine-unsound, refine-sound, refine-callable)
 

@@ -14,7 +14,7 @@ use Rattle.split.specs.Row.{edgeOf}
 use Rattle.split.proofs.laws.Places.{le-or-lt}
 use Rattle.tables.specs.declared.layout.Counts.{Counts}
 use Rattle.tables.specs.declared.layout.Size.{Size}
-use Rattle.tables.specs.Layout.{recordWidth, noRow, recordAt, rowAt, putRecord, resized}
+use Rattle.tables.specs.Layout.{recordWidth, noRow, recordAt, rowAt, putRecord, resized, mostRows}
 use Rattle.tables.proofs.laws.Rows.{length-put-record}
 use Rattle.tables.proofs.laws.View.{length-up-to, up-to-at}
 use Rattle.run.specs.Skeleton.{Skeleton, rowIn}
@@ -106,7 +106,7 @@ module _ {r w s : List ℕ} {d : Counts} {room : Size} {q k : ℕ} (x : Cuttable
   patch-is : holders (rowsOf w (d .rows)) (edgeOf (rowIn (rowsOf w (d .rows)) q)) ≡ patchIn s k
   patch-is = ap (holders (rowsOf w (d .rows))) edge-is ∙ sym (x .listed .patch)
 
-  pub cut-few : (d .rows ≤ 100000) × (k ≤ 100000)
+  pub cut-few : (d .rows ≤ mostRows) × (k ≤ mostRows)
   cut-few = (T .state .few, omega (arith, x .listed .size, T .state .few))
 
   -- where there is no room

@@ -10,7 +10,7 @@ use Rattle.split.specs.Split.{at}
 use Rattle.split.specs.Row.{cornersOf}
 use Rattle.tables.specs.declared.layout.Counts.{Counts}
 use Rattle.tables.specs.declared.layout.Size.{Size}
-use Rattle.tables.specs.Layout.{rowWidth, recordWidth, pointWidth, noRow, pointAt, recordAt, rowAt, roomOf}
+use Rattle.tables.specs.Layout.{rowWidth, recordWidth, pointWidth, noRow, pointAt, recordAt, rowAt, roomOf, mostRows, mostVertices}
 use Rattle.tables.specs.Mesh.{Mesh, meshOf}
 use Rattle.tables.proofs.laws.View.{length-up-to, up-to-at}
 use Rattle.sound.specs.Sound.{Sound}
@@ -27,8 +27,8 @@ use Rattle.closure.proofs.laws.Blank.{rows-blank, records-blank}
 
 -- the room is within what the tables hold
 pub record Roomy (p r w : ℕ) : Type 0 where
-  pub few-vertices : roomOf p r w .vertices ≤ 20000
-  pub few-rows : roomOf p r w .rows ≤ 100000
+  pub few-vertices : roomOf p r w .vertices ≤ mostVertices
+  pub few-rows : roomOf p r w .rows ≤ mostRows
   pub points-fit : roomOf p r w .vertices ≤ p / pointWidth
   pub records-fit : roomOf p r w .vertices ≤ r / recordWidth
   pub rows-fit : roomOf p r w .rows ≤ w / rowWidth

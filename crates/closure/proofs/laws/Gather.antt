@@ -14,7 +14,7 @@ use Rattle.split.specs.Row.{cornersOf}
 use Rattle.chain.specs.Chain.{latest, Indexed}
 use Rattle.chain.proofs.laws.Index.{next-link}
 use Rattle.chain.proofs.laws.Walk.{latest-between, latest-below, latest-miss, latest-some}
-use Rattle.tables.specs.Layout.{noRow, rowAt}
+use Rattle.tables.specs.Layout.{noRow, rowAt, mostRows}
 use Rattle.tables.specs.Mesh.{upTo}
 use Rattle.tables.proofs.laws.View.{length-up-to, up-to-at}
 use Rattle.opening.proofs.laws.Indexing.{indexed-kept}
@@ -146,7 +146,7 @@ module _ {w s₀ : List ℕ} {n : ℕ} {e : Ends} {a : ℕ} (g : Gatherable w s�
     row-there : q < n
     row-there = omega (arith, x .below)
 
-    pub walk-room : k < 100000
+    pub walk-room : k < mostRows
     walk-room = omega (arith, x .few, x .below, g .state .few)
 
     holds : 40000 + 5 * n ≤ length s

@@ -16,7 +16,7 @@ use Rattle.split.proofs.laws.Rows.{vertices-step}
 use Rattle.chain.specs.Chain.{Indexed, pushed}
 use Rattle.chain.proofs.laws.Pushed.{pushed-length, pushed-beyond}
 use Rattle.chain.proofs.laws.Index.{indexed-push-one, indexed-same}
-use Rattle.tables.specs.Layout.{rowWidth, noRow, rowAt, putRow}
+use Rattle.tables.specs.Layout.{rowWidth, noRow, rowAt, putRow, mostRows}
 use Rattle.tables.proofs.laws.Rows.{length-put-row, row-put}
 use Rattle.tables.proofs.laws.View.{length-up-to, up-to-at}
 use Rattle.closure.specs.State.{corner, rowsOf, linksAt, scratchFor, cornersPushed, rowPushed, State, Splittable, Halves}
@@ -39,7 +39,7 @@ slot-is : (k : ℕ) → k ≡ 4 * (k / 4) + k % 4
 slot-is k = omega arith
 
 -- links and patch of n rows, heads and uses
-pub scratch-holds : (w s n : ℕ) → scratchFor w ≤ s → n ≤ 100000 → n ≤ w / rowWidth → 40000 + 5 * n ≤ s
+pub scratch-holds : (w s n : ℕ) → scratchFor w ≤ s → n ≤ mostRows → n ≤ w / rowWidth → 40000 + 5 * n ≤ s
 unfolding scratchFor
 scratch-holds w s n h few fits = omega arith
 
@@ -73,7 +73,7 @@ module _ (w s : List ℕ) (n : ℕ) (r : Row) where
   unfolding rowPushed
   rowPushed-between e j l h = row-counted-before (cornersPushed s n r) r j (rw (corners-length, e) h) ∙ corners-beyond j l
 
-  module _ (x : State w s n) (room : n < length w / rowWidth) (few : n < 100000) (under : Under linksAt r) where
+  module _ (x : State w s n) (room : n < length w / rowWidth) (few : n < mostRows) (under : Under linksAt r) where
     abbrev w' : List ℕ
     w' = putRow w n r
 

@@ -4,6 +4,7 @@ use mathlib.Core.List.{List, _∷_}
 use mathlib.Core.Logic.{_⊎_, inl, inr}
 use Prim.Native.Nat.{ℕ, _≤_}
 use lib.ListN.{length}
+use Rattle.tables.specs.Layout.{mostVertices}
 use Rattle.split.specs.declared.point.Point.{Point}
 use Rattle.split.proofs.laws.Places.{le-or-lt}
 use Rattle.tables.specs.declared.layout.Size.{Size}
@@ -50,5 +51,5 @@ module _ (room : Size) where
   all-ends (refined l p q) w = refined-ends l p (run-ends p) (all-ends q)
 
 -- what does not outgrow the room ends within it
-pub run-within : (P : List Point) (i t : ℕ) {S S' : Skeleton} {rs : List ℕ} {room : Size} → RunAll S rs S' → Ready P i t S → Within room S → room .vertices ≤ 20000 → AllMarkable S rs → (Outgrows room (meshed P S) i t rs → ⊥) → Within room S'
+pub run-within : (P : List Point) (i t : ℕ) {S S' : Skeleton} {rs : List ℕ} {room : Size} → RunAll S rs S' → Ready P i t S → Within room S → room .vertices ≤ mostVertices → AllMarkable S rs → (Outgrows room (meshed P S) i t rs → ⊥) → Within room S'
 run-within P i t {room = room} p y w small k n = elim (all-ends room p w) [ inl a ↦ a | inr s ↦ absurd (n (no-room P i t s y w small k)) ]

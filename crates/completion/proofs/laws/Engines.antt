@@ -5,6 +5,7 @@ use mathlib.Core.Logic.{Iff·trans, Iff·symm}
 use Prim.Native.Nat.{ℕ, _≤_, _<_}
 use native.Mathlib.Omega.{arith}
 use lib.ListN.{length}
+use Rattle.tables.specs.Layout.{mostVertices}
 use Rattle.split.specs.declared.point.Point.{Point}
 use Rattle.tables.specs.declared.layout.Size.{Size}
 use Rattle.run.specs.Skeleton.{Skeleton}
@@ -25,7 +26,7 @@ both-engines P i t p q y less few k =
     let b = completed-finished P i t q y few k in
     same-counts (a .ready) (b .ready) (a .grows .forest ∙ sym (b .grows .forest)) (λ e. Iff·trans (demanded P i t p y less k e) (Iff·symm (b .exactly e)))
 
-module _ (P : List Point) (i t : ℕ) {S : Skeleton} {rs : List ℕ} {room : Size} (y : Ready P i t S) (f : Within room S) (small : room .vertices ≤ 20000) (k : AllMarkable S rs) where
+module _ (P : List Point) (i t : ℕ) {S : Skeleton} {rs : List ℕ} {room : Size} (y : Ready P i t S) (f : Within room S) (small : room .vertices ≤ mostVertices) (k : AllMarkable S rs) where
   -- where the recursive engine has no room, this one has none (02, L10)
   pub same-refusal : StuckAll room S rs → Stuck room S rs
   same-refusal p = outgrows-stuck P i t y f small k (no-room P i t p y f small k)

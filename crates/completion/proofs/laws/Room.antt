@@ -4,6 +4,7 @@ use mathlib.Core.List.{List, List·Memᴰ, List·Memᴰ·head, List·Memᴰ·tai
 use Prim.Native.Nat.{ℕ, _≤_, _<_}
 use native.Mathlib.Omega.{arith}
 use lib.ListN.{length}
+use Rattle.tables.specs.Layout.{mostVertices}
 use Rattle.split.specs.declared.point.Point.{Point}
 use Rattle.tables.specs.declared.layout.Size.{Size}
 use Rattle.forest.specs.Element.{Element}
@@ -31,7 +32,7 @@ pub record Overrun (P : List Point) (i t : ℕ) (Z : Element → Type 0) (room :
   pub went : Went P i t Z S mesh
   pub over : Over room mesh
 
-module _ (P : List Point) (i t : ℕ) (Z : Element → Type 0) (room : Size) (small : room .vertices ≤ 20000) where
+module _ (P : List Point) (i t : ℕ) (Z : Element → Type 0) (room : Size) (small : room .vertices ≤ mostVertices) where
   later : {S T : Skeleton} → Went P i t Z S T → Overrun P i t Z room T → Overrun P i t Z room S
   later a w = record { mesh = w .mesh; went = went-on P i t Z a (w .went); over = w .over }
 
@@ -63,7 +64,7 @@ module _ (P : List Point) (i t : ℕ) {S S' : Skeleton} {rs : List ℕ} (p : Com
   unfolding Outgrows
   completed-over v = let x = completed-finished P i t p y less k in split-outgrows (x .ready .grown) (x .grows .forest) (λ e. x .exactly e .0) v
 
-module _ (P : List Point) (i t : ℕ) {S : Skeleton} {rs : List ℕ} {room : Size} (y : Ready P i t S) (f : Within room S) (small : room .vertices ≤ 20000) (k : AllMarkable S rs) where
+module _ (P : List Point) (i t : ℕ) {S : Skeleton} {rs : List ℕ} {room : Size} (y : Ready P i t S) (f : Within room S) (small : room .vertices ≤ mostVertices) (k : AllMarkable S rs) where
   -- no room for a split: more is needed than there is (02, L10)
   pub stuck-outgrows : Stuck room S rs → Outgrows room (meshed P S) i t rs
   unfolding Outgrows

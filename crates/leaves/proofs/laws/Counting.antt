@@ -7,7 +7,7 @@ use native.Mathlib.Numerals.{add-one}
 use native.Mathlib.Omega.{arith}
 use borrow.Author.Tests.{eq-eqb, ne-eqb}
 use Rattle.split.specs.declared.row.Row.{Row}
-use Rattle.tables.specs.Layout.{rowAt}
+use Rattle.tables.specs.Layout.{rowAt, mostRows}
 use Rattle.intake.specs.Search.{count}
 use Rattle.opening.proofs.laws.Counting.{count-below}
 use Rattle.leaves.specs.Walk.{leafAt}
@@ -38,7 +38,7 @@ module _ {w : List ℕ} {n k size : ℕ} (x : Counted w n k size) where
   pub counted-low : size ≤ k
   counted-low = omega (arith, x .counted, count-below (leafAt w) k)
 
-  pub counted-fits : n ≤ 100000 → k < n → {a : ℕ} → a ≡ weightAt w k → size + a < 100001
+  pub counted-fits : n ≤ mostRows → k < n → {a : ℕ} → a ≡ weightAt w k → size + a < 100001
   counted-fits f h {a} e = omega (arith, counted-low, small (leafAt w k) e)
     where
       small : (t : Bool) → a ≡ cond t 1 0 → a ≤ 1

@@ -6,6 +6,7 @@ use Prim.Native.Nat.{ℕ, _+_, _≤_, _<_}
 use native.Mathlib.Omega.{arith}
 use lib.ListN.{length, set, replicate, length-append, length-replicate, length-map}
 use lib.Seq.{sets, sets-eq, set-out}
+use Rattle.tables.specs.Layout.{mostRows}
 use Rattle.tables.specs.Mesh.{padded}
 use Rattle.tables.specs.Report.{listed}
 use Rattle.tables.proofs.laws.Parts.{drop-replicate}
@@ -28,8 +29,8 @@ one-stored e f g = record { list-is = e; levels-is = rw f at g; next = refl }
 -- ---- the loop over the roots
 
 module _ {w : List ℕ} {n : ℕ} (x : Listable w n) where
-  all-low : length (treesBelow (rowsIn w) n) ≤ 100000
-  all-low = let h : length (listing (rowsOf w n)) ≤ 100000 = omega (arith, x .size, count-below (leafAt w) n, x .wooded .few) in rw (listing-rows w n (x .blank)) at h
+  all-low : length (treesBelow (rowsIn w) n) ≤ mostRows
+  all-low = let h : length (listing (rowsOf w n)) ≤ mostRows = omega (arith, x .size, count-below (leafAt w) n, x .wooded .few) in rw (listing-rows w n (x .blank)) at h
 
   pub roots-start : {l v : List ℕ} → Listing w n 0 l v l v 0
   roots-start = record { within = omega arith; stored = rw (trees-none (rowsIn w)) stores-none }

@@ -7,7 +7,7 @@ use native.Mathlib.Omega.{arith}
 use lib.ListN.{length, set, length-append, length-map}
 use lib.Seq.{sets, length-sets}
 use Rattle.split.specs.declared.row.Row.{Row}
-use Rattle.tables.specs.Layout.{rowAt}
+use Rattle.tables.specs.Layout.{rowAt, mostRows}
 use Rattle.leaves.specs.Listing.{levelIn, treeOf}
 use Rattle.leaves.specs.Walk.{rowsIn, below, Branches, Low, Walkable, Stores, StoresOne, Rooted}
 use Rattle.leaves.proofs.laws.Steps.{listing-leaf, listing-split, tree-root, tree-child, row-in}
@@ -56,11 +56,11 @@ module _ {w : List ℕ} {k at : ℕ} (x : Walkable w k at) {h : Row} (e : h ≡ 
     is-leaf : rowAt w k .child ≡ 0
     is-leaf = rw e at s
 
-    leaf-row-low : k < 100000
+    leaf-row-low : k < mostRows
     leaf-row-low = omega (arith, x .there, x .wooded .few)
 
-    leaf-place-low : at < 100000
-    leaf-place-low = let r : at + length (below w k) ≤ 100000 = x .room in let o : at + length (k ∷ []) ≤ 100000 = rw (below-leaf w k is-leaf) at r in omega arith
+    leaf-place-low : at < mostRows
+    leaf-place-low = let r : at + length (below w k) ≤ mostRows = x .room in let o : at + length (k ∷ []) ≤ mostRows = rw (below-leaf w k is-leaf) at r in omega arith
 
     pub leaf-ready : Low k at
     leaf-ready = record { row-low = leaf-row-low; place-low = leaf-place-low }
@@ -75,14 +75,14 @@ module _ {w : List ℕ} {k at : ℕ} (x : Walkable w k at) {h : Row} (e : h ≡ 
     forks : Branches w (x .rows) k
     forks = x .wooded .branches k (x .there) is-split
 
-    parts : at + (length (below w (rowAt w k .child)) + length (below w (rowAt w k .child + 1))) ≤ 100000
+    parts : at + (length (below w (rowAt w k .child)) + length (below w (rowAt w k .child + 1))) ≤ mostRows
     parts = rw (below-split forks is-split, length-append (below w (rowAt w k .child)) (below w (rowAt w k .child + 1))) at (x .room)
 
     module _ {child : ℕ} (ec : child ≡ h .child) where
       here : child ≡ rowAt w k .child
       here = rw e at ec
 
-      pub child-low : child + 1 < 100000
+      pub child-low : child + 1 < mostRows
       child-low = omega (arith, here, forks .both, x .wooded .few)
 
       pub first-walk : Walkable w child at

@@ -14,7 +14,7 @@ use lib.Ieee.{Float}
 use Rattle.split.specs.Row.{sameRow}
 use Rattle.split.proofs.laws.Tests.{fails, holds, both}
 use Rattle.tables.specs.declared.record.Record.{Record}
-use Rattle.tables.specs.Layout.{recordAt, rowAt}
+use Rattle.tables.specs.Layout.{recordAt, rowAt, mostRows, mostVertices, pointWidth}
 use Rattle.intake.specs.Cells.{Cells}
 use Rattle.intake.specs.declared.answer.Verdict.{Verdict}
 use Rattle.intake.specs.declared.answer.Verdict.the-variants.{Refused, Passed}
@@ -111,21 +111,21 @@ accepts-passed Passed e = refl
 -- ---- lengths
 
 module _ (coordinates elements memory : ℕ) where
-  pub workable-long : 60000 < coordinates → false ≡ workable coordinates elements memory
+  pub workable-long : pointWidth * mostVertices < coordinates → false ≡ workable coordinates elements memory
   unfolding workable
-  workable-long h = rw (lt-leb coordinates 60000 h)
+  workable-long h = rw (lt-leb coordinates (pointWidth * mostVertices) h)
 
   pub workable-none : elements < 1 → false ≡ workable coordinates elements memory
   unfolding workable
   workable-none h = rw (lt-leb 1 elements h, fails-last)
 
-  pub workable-many : 100000 < elements → false ≡ workable coordinates elements memory
+  pub workable-many : mostRows < elements → false ≡ workable coordinates elements memory
   unfolding workable
-  workable-many h = rw (lt-leb elements 100000 h, fails-last, fails-last)
+  workable-many h = rw (lt-leb elements mostRows h, fails-last, fails-last)
 
-  pub workable-room : {r : Bool} → coordinates ≤ 60000 → 1 ≤ elements → elements ≤ 100000 → r ≡ leb (linksAt + 4 * elements) memory → r ≡ workable coordinates elements memory
+  pub workable-room : {r : Bool} → coordinates ≤ pointWidth * mostVertices → 1 ≤ elements → elements ≤ mostRows → r ≡ leb (linksAt + 4 * elements) memory → r ≡ workable coordinates elements memory
   unfolding workable
-  workable-room f s g e = rw (le-leb coordinates 60000 f, le-leb 1 elements s, le-leb elements 100000 g, e)
+  workable-room f s g e = rw (le-leb coordinates (pointWidth * mostVertices) f, le-leb 1 elements s, le-leb elements mostRows g, e)
 
   pub record Workable : Type 0 where
     pub moderate : Moderate coordinates elements
@@ -135,14 +135,14 @@ module _ (coordinates elements memory : ℕ) where
   pub workable-means : workable coordinates elements memory ≡ true → Workable
   unfolding workable
   workable-means e =
-      let (a, e1) = both (leb coordinates 60000) _ e in
+      let (a, e1) = both (leb coordinates (pointWidth * mostVertices)) _ e in
       let (b, e2) = both (leb 1 elements) _ e1 in
-      let (c, d) = both (leb elements 100000) _ e2 in
+      let (c, d) = both (leb elements mostRows) _ e2 in
       record { moderate = record { few-coordinates = leb-true _ _ a; few-elements = leb-true _ _ c }; some = leb-true _ _ b; room = leb-true _ _ d }
 
   pub means-workable : Workable → workable coordinates elements memory ≡ true
   unfolding workable
-  means-workable w = rw (le-leb coordinates 60000 (w .moderate .few-coordinates), le-leb 1 elements (w .some), le-leb elements 100000 (w .moderate .few-elements), le-leb (linksAt + 4 * elements) memory (w .room))
+  means-workable w = rw (le-leb coordinates (pointWidth * mostVertices) (w .moderate .few-coordinates), le-leb 1 elements (w .some), le-leb elements mostRows (w .moderate .few-elements), le-leb (linksAt + 4 * elements) memory (w .room))
 
 -- ---- the whole comparison
 

@@ -5,6 +5,7 @@ use mathlib.Core.List.{List}
 use Prim.Native.Nat.{ℕ, _+_, _-_, _*_, _/_, _<_, _≤_}
 use native.Mathlib.Omega.{arith}
 use lib.ListN.{length, getD}
+use Rattle.tables.specs.Layout.{mostRows}
 use Rattle.chain.specs.Chain.{latest}
 use Rattle.chain.proofs.laws.Index.{next-link}
 use Rattle.chain.proofs.laws.Walk.{latest-below}
@@ -40,7 +41,7 @@ module _ {vertices : ℕ} {E : Cells} {index : List ℕ} (k v : ℕ) (x : Plain 
   next : (P : ℕ → Bool) {n at to : ℕ} → Counting E k v P n at → 0 < at → to ≡ getD index (linksAt + (at - 1)) 0 → Counting E k v P (n + one (P ((at - 1) / 4))) to
   next P w l e = rw (e, link P w l) (walk-next _ _ _ w l)
 
-  few : (P : ℕ → Bool) {n at : ℕ} → k < E .count → Counting E k v P n at → n ≤ 400000
+  few : (P : ℕ → Bool) {n at : ℕ} → k < E .count → Counting E k v P n at → n ≤ 4 * mostRows
   few P h w = omega (arith, w .left, visits-below (slot E) v (λ i. P (i / 4)) (4 * k), x .few)
 
   total : (P : ℕ → Bool) {n at : ℕ} → k < E .count → Counting E k v P n at → at ≤ 0 → n ≡ count (λ j. has E j v && P j) k

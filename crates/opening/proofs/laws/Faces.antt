@@ -13,6 +13,7 @@ use mir.Facts.{fits-below}
 use borrow.Author.Tests.{eq-eqb, ne-eqb}
 use lib.Dec.{ltb, leb}
 use lib.ListN.{length}
+use Rattle.tables.specs.Layout.{mostRows}
 use Rattle.intake.specs.Cells.{Cells}
 use Rattle.opening.specs.declared.faces.Seen.{Seen}
 use Rattle.opening.specs.declared.faces.Met.{Met}
@@ -171,7 +172,7 @@ product-small x y h l = le-trans (mul-le-mul-right y h) (omega arith)
 pub product-fits : (x y : ℕ) → x ≤ 1 → y ≤ 1 → Fits w64 (x * y)
 product-fits x y h l = fits-below tt (product-small x y h l)
 
-pub sum-fits : (n p : ℕ) → n ≤ 400000 → p ≤ 1 → Fits w64 (n + p)
+pub sum-fits : (n p : ℕ) → n ≤ 4 * mostRows → p ≤ 1 → Fits w64 (n + p)
 sum-fits n p h l = fits-below {n = 400001} tt (omega arith)
 
 pub ruleset products = (product-small, product-fits, sum-fits)

@@ -1,13 +1,12 @@
 -- The index while slots are pushed: the first i of them are in it.
 use mathlib.Core.Path.{_≡_, sym, _∙_}
-use mathlib.Core.Logic.{inl, inr}
 use mathlib.Core.List.{List}
 use Prim.Native.Nat.{ℕ, _+_, _*_, _/_, _%_, _≤_, _<_}
 use native.Mathlib.Nat.{add-zero, add-assoc}
 use native.Mathlib.Omega.{arith}
-use lib.ListN.{length, getD, replicate, length-replicate, getD-replicate, List·getD-eq-default}
-use Rattle.split.proofs.laws.Places.{le-or-lt}
+use lib.ListN.{length, getD, replicate, length-replicate}
 use Rattle.chain.specs.Chain.{Indexed, pushed}
+use Rattle.chain.proofs.laws.Clearing.{zeros-at}
 use Rattle.chain.proofs.laws.Pushed.{pushed-length}
 use Rattle.chain.proofs.laws.Index.{indexed-none, indexed-push-one}
 use Rattle.intake.specs.Cells.{Cells}
@@ -18,22 +17,19 @@ use Rattle.opening.specs.Scratch.{linksAt, paintLength, slot, Plain, Fil
 pub indexed-kept : {key : ℕ → ℕ} {n base : ℕ} {index next : List ℕ} → length next ≡ length index → ((j : ℕ) → j < base + n → getD next j 0 ≡ getD index j 0) → Indexed key n base index → Indexed key n base next
 indexed-kept {base = base} l same x = record { room = rw l (x .room); heads = λ v h. same v (omega arith) ∙ x .heads v h; links = λ i h. same (base + i) (omega arith) ∙ x .links i h }
 
-replicate-zero : (n i : ℕ) → _≡_ {A = ℕ} (getD (replicate n 0) i 0) 0
-replicate-zero n i = elim (le-or-lt n i) [ inl h ↦ List·getD-eq-default (replicate n 0) 0 {n = i} (rw length-replicate h) | inr h ↦ getD-replicate n i 0 0 h ]
-
 -- ---- tables of zeros, over any length, so that none is ever written out
 
 pub zeros-count : (n : ℕ) → n ≡ length (replicate {A = ℕ} n 0)
 zeros-count n = sym (length-replicate n 0)
 
 pub zeros-clear : (n : ℕ) → n ≡ paintLength → Clear (replicate n 0)
-zeros-clear n e = record { size = length-replicate n 0 ∙ e; zeros = replicate-zero n }
+zeros-clear n e = record { size = length-replicate n 0 ∙ e; zeros = zeros-at n }
 
 zeros-filled : (n : ℕ) (E : Cells) → linksAt + 4 * E .count ≤ n → Filled E 0 (replicate n 0)
 zeros-filled n E h =
     record {
       room = rw length-replicate h;
-      index = indexed-none (slot E) linksAt (replicate n 0) (rw length-replicate (omega arith)) (λ v l. replicate-zero n v);
+      index = indexed-none (slot E) linksAt (replicate n 0) (rw length-replicate (omega arith)) (λ v l. zeros-at n v);
     }
 
 pub given-zeros : {coordinates n : ℕ} {E : Cells} → Moderate coordinates (E .count) → linksAt + 4 * E .count ≤ n → Given coordinates E (replicate n 0)

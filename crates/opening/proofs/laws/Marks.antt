@@ -9,6 +9,7 @@ use borrow.Author.Tests.{lt-ltb, le-ltb}
 use lib.Dec.{ltb}
 use lib.ListN.{length, getD, set, length-set, getD-replicate, List·getD-eq-default}
 use lib.Seq.{set-out, getD-set-same, getD-set-other}
+use Rattle.tables.specs.Layout.{mostVertices}
 use Rattle.chain.specs.Chain.{latest}
 use Rattle.chain.proofs.laws.Walk.{latest-between, latest-below, latest-some}
 use Rattle.chain.proofs.laws.Index.{next-link}
@@ -74,7 +75,7 @@ module _ (paint : List ℕ) (v u : ℕ) (flags : List ℕ) where
 -- ---- the four marks of an element
 
 -- its vertices are there
-pub vertex-few : {vertices r : ℕ} {E : Cells} (k q : ℕ) → Plain vertices E → r ≡ vertex E k q → k < E .count → q ≤ 3 → r < 20000
+pub vertex-few : {vertices r : ℕ} {E : Cells} (k q : ℕ) → Plain vertices E → r ≡ vertex E k q → k < E .count → q ≤ 3 → r < mostVertices
 vertex-few k q p e h l = omega (arith, p .there k q h (omega arith), p .most)
 
 module _ (E : Cells) (paint : List ℕ) (v k : ℕ) where

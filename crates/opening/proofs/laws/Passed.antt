@@ -9,7 +9,7 @@ use lib.ListN.{length}
 use lib.Ieee.{Float, nan, inf, fin}
 use borrow.Author.Tests.{ltb-false, leb-true, leb-false, le-leb, eqb-true, eqb-false, not-false}
 use Rattle.split.specs.Magnitude.{Bounded}
-use Rattle.tables.specs.Layout.{roomOf}
+use Rattle.tables.specs.Layout.{roomOf, mostRows, mostVertices, pointWidth}
 use Rattle.intake.specs.Cells.{Cells}
 use Rattle.intake.specs.declared.answer.Found.the-variants.{Nowhere}
 use Rattle.intake.specs.Search.{first}
@@ -28,8 +28,8 @@ neither false b h = (refl, h)
 record Measured (coordinates elements : ℕ) : Type 0 where
   thirds : coordinates % 3 ≡ 0
   quarters : elements % 4 ≡ 0
-  vertices : coordinates ≤ 60000
-  most : elements ≤ 400000
+  vertices : coordinates ≤ pointWidth * mostVertices
+  most : elements ≤ 4 * mostRows
 
 measured : (coordinates elements : ℕ) → wrongInput coordinates elements ≡ false → Measured coordinates elements
 unfolding wrongInput
@@ -45,7 +45,7 @@ measured coordinates elements h =
       most = ltb-false _ _ most;
     }
 
-pub few-passed : (coordinates elements : ℕ) → wrongInput coordinates elements ≡ false → (coordinates ≤ 60000) × (elements / 4 ≤ 100000)
+pub few-passed : (coordinates elements : ℕ) → wrongInput coordinates elements ≡ false → (coordinates ≤ pointWidth * mostVertices) × (elements / 4 ≤ mostRows)
 few-passed coordinates elements w = let lengths = measured coordinates elements w in (lengths .vertices, omega (arith, lengths .most))
 
 pub roomy-passed :
@@ -129,8 +129,8 @@ apart-passed E d k p q h = none-twice (vertex E k) (first-none (double E) (E .co
 -- elements of which there are few enough, and few enough vertices
 pub plain-cells :
     (vertices : ℕ) (E : Cells) →
-    E .count ≤ 100000 →
-    vertices ≤ 20000 →
+    E .count ≤ mostRows →
+    vertices ≤ mostVertices →
     first (missing vertices E) (E .count) ≡ Nowhere →
     first (double E) (E .count) ≡ Nowhere →
     Plain vertices E

@@ -8,6 +8,7 @@ use native.Mathlib.Omega.{arith}
 use borrow.Author.Tests.{ltb-true, ltb-false, lt-ltb, le-ltb, eq-eqb, ne-eqb}
 use lib.Dec.{ltb}
 use lib.ListN.{length, getD}
+use Rattle.tables.specs.Layout.{mostVertices}
 use Rattle.split.specs.Split.{three, number, Corners, corners}
 use Rattle.split.specs.Row.{root}
 use Rattle.forest.specs.Start.{arranged, moved}
@@ -39,10 +40,10 @@ module _ (f : ℕ → ℕ) (a b : ℕ) where
 
 -- two vertices that have colours
 pub record Known (r : Two) : Type 0 where
-  pub low : r .low < 20000
-  pub high : r .high < 20000
+  pub low : r .low < mostVertices
+  pub high : r .high < mostVertices
 
-pub in-order-known : (f : ℕ → ℕ) (a b : ℕ) (r : Two) → r ≡ inOrder f a b → a < 20000 → b < 20000 → Known r
+pub in-order-known : (f : ℕ → ℕ) (a b : ℕ) (r : Two) → r ≡ inOrder f a b → a < mostVertices → b < mostVertices → Known r
 in-order-known f a b r e h k = rw e (either f a b (λ x y. Known (two x y)) (λ _. record { low = h; high = k }) (λ _. record { low = k; high = h }))
 
 -- the comparisons of four vertices: 0 with 1 and 2 with 3, then the lower two and the upper two, then the two between

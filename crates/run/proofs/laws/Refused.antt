@@ -4,6 +4,7 @@ use mathlib.Core.List.{List, [], _∷_, List·Memᴰ, List·Memᴰ·head, List·
 use Prim.Native.Nat.{ℕ, _+_, _≤_}
 use native.Mathlib.Omega.{arith}
 use lib.ListN.{length, length-append}
+use Rattle.tables.specs.Layout.{mostVertices}
 use Rattle.split.specs.declared.point.Point.{Point}
 use Rattle.split.specs.Row.{edgeOf}
 use Rattle.tables.specs.declared.layout.Size.{Size}
@@ -33,7 +34,7 @@ pub record Overrun (P : List Point) (i t : ℕ) (Z : Element → Type 0) (room :
   pub inside : Inside (meshed P mesh) t Z
   pub over : Over room mesh
 
-module _ (P : List Point) (i t : ℕ) (Z : Element → Type 0) (room : Size) (small : room .vertices ≤ 20000) where
+module _ (P : List Point) (i t : ℕ) (Z : Element → Type 0) (room : Size) (small : room .vertices ≤ mostVertices) where
   later : {S T : Skeleton} → Grows (meshed P S) (meshed P T) i t → Overrun P i t Z room T → Overrun P i t Z room S
   later g w = record { mesh = w .mesh; ready = w .ready; grows = grows-on g (w .grows); inside = w .inside; over = w .over }
 
@@ -94,7 +95,7 @@ module _ (P : List Point) (i t : ℕ) (Z : Element → Type 0) (room : Size) (sm
   pub stuck-all-over : {S : Skeleton} {rs : List ℕ} → StuckAll room S rs → Ready P i t S → Within room S → AllMarkable S rs → Closed (forestOf (meshed P S) t) Z → Inside (meshed P S) t Z → ((r : ℕ) → List·Memᴰ r rs → Z (elementOf (meshed P S) t r)) → Overrun P i t Z room S
   stuck-all-over p = leads-all p .from
 
-pub no-room : (P : List Point) (i t : ℕ) {S : Skeleton} {rs : List ℕ} {room : Size} → StuckAll room S rs → Ready P i t S → Within room S → room .vertices ≤ 20000 → AllMarkable S rs → Outgrows room (meshed P S) i t rs
+pub no-room : (P : List Point) (i t : ℕ) {S : Skeleton} {rs : List ℕ} {room : Size} → StuckAll room S rs → Ready P i t S → Within room S → room .vertices ≤ mostVertices → AllMarkable S rs → Outgrows room (meshed P S) i t rs
 unfolding Outgrows
 no-room P i t {S} {rs} {room} p y f small k =
     let w = stuck-all-over P i t (Needed (meshed P S) t rs) room small p y f k forced-closed (needed-split (meshed P S) t rs) (needed-mark (meshed P S) t rs) in

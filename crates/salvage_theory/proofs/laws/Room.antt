@@ -3,6 +3,7 @@ use mathlib.Core.Path.{_∙_}
 use Prim.Native.Nat.{ℕ, _≤_, _<_}
 use native.Mathlib.Omega.{arith}
 use lib.ListN.{length}
+use Rattle.tables.specs.Layout.{mostVertices}
 use Rattle.tables.specs.declared.layout.Size.{Size}
 use Rattle.tables.specs.Mesh.{Mesh}
 use Rattle.sound.specs.Sound.{rows}
@@ -25,7 +26,7 @@ module _ {m : Mesh} {i t : ℕ} (n : Intact m i t) (never : KeptDeep m t → ⊥
       split-fits (b .ready .grown) (built-forest n b) (λ e. rebuilt-forced n never p few e .1) w
 
   -- one that has no room for the opened mesh or for a patch needs more
-  pub stalled-large : room .vertices ≤ 20000 → Stalled room m i t → OutgrowsIn room (forestOf m t) i (Salvaged m t)
+  pub stalled-large : room .vertices ≤ mostVertices → Stalled room m i t → OutgrowsIn room (forestOf m t) i (Salvaged m t)
   stalled-large small (start v) = split-outgrows (opened-grown n) (opened-forest n) (λ e s. absurd (opened-whole n e s)) v
   stalled-large small (stuck p f w q) =
       let b = rebuilt-built n never p (omega (arith, f .vertices, small)) in

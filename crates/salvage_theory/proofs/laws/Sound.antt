@@ -5,6 +5,7 @@ use mathlib.Core.Logic.{_↔_, Iff·trans, inl, inr}
 use Prim.Native.Nat.{ℕ, zero, suc, _≤_, _<_}
 use native.Mathlib.Omega.{arith}
 use lib.ListN.{length}
+use Rattle.tables.specs.Layout.{mostRows, mostVertices}
 use Rattle.split.specs.Split.{left}
 use Rattle.split.proofs.laws.Places.{le-or-lt}
 use Rattle.tables.specs.Mesh.{Mesh}
@@ -31,7 +32,7 @@ follows-split f e = omega (arith, f .table .later)
 
 module _ {m : Mesh} {i t : ℕ} (g : Grown m i t) where
   -- the leading vertices and roots of sound tables are intact
-  pub grown-intact : vertices m ≤ 20000 → rows m ≤ 100000 → Intact m i t
+  pub grown-intact : vertices m ≤ mostVertices → rows m ≤ mostRows → Intact m i t
   grown-intact v r = record {
     vertices-few = v;
     rows-few = r;

@@ -4,7 +4,7 @@ use Prim.Native.Nat.{ℕ, _%_, _≤_}
 use native.Mathlib.Omega.{arith}
 use lib.ListN.{length}
 use Rattle.tables.specs.declared.layout.Counts.{Counts}
-use Rattle.tables.specs.Layout.{pointWidth, recordWidth, rowWidth, roomOf}
+use Rattle.tables.specs.Layout.{pointWidth, recordWidth, rowWidth, roomOf, mostVertices}
 use Rattle.tables.specs.Mesh.{Lent, Mesh, Counting, meshOf, laid}
 use Rattle.tables.proofs.laws.View as view
 use Rattle.sound.specs.Sound.{rows, Sound}
@@ -20,7 +20,7 @@ use Rattle.salvage_theory.proofs.laws.Sound.{grown-intact}
 
 -- the rebuilt tables are sound, whatever their lengths, where the mesh is within their room
 module _ {m : Mesh} {i t : ℕ} (n : Intact m i t) (never : KeptDeep m t → ⊥) {T : Skeleton} (p : Rebuilt m i t (rows m) T) (lp lv lr : ℕ) (f : Within (roomOf lp lv lr) T) where
-  few : length (T .records) ≤ 20000
+  few : length (T .records) ≤ mostVertices
   unfolding roomOf
   few = omega (arith, f .vertices)
 

@@ -8,7 +8,7 @@ use borrow.Author.Tests.{ltb-false, eqb-true, eqb-false, not-false}
 use lib.Dec.{eqb}
 use lib.ListN.{length}
 use lib.Ieee.{Float}
-use Rattle.tables.specs.Layout.{roomOf, pointWidth, recordWidth, rowWidth}
+use Rattle.tables.specs.Layout.{roomOf, pointWidth, recordWidth, rowWidth, mostRows, mostVertices}
 use Rattle.intake.specs.Cells.{Cells, quads}
 use Rattle.intake.specs.declared.answer.Found.{Found}
 use Rattle.intake.specs.declared.answer.Found.the-variants.{At, Nowhere}
@@ -28,8 +28,8 @@ pub record Measured (coordinates elements : ℕ) : Type 0 where
   pub thirds : coordinates % 3 ≡ 0
   pub quarters : elements % 4 ≡ 0
   pub some : elements ≡ 0 → ⊥
-  pub vertices : coordinates ≤ 60000
-  pub most : elements ≤ 400000
+  pub vertices : coordinates ≤ pointWidth * mostVertices
+  pub most : elements ≤ 4 * mostRows
 
 -- what tests 1 and 2 say of the lent tables
 pub record Roomed (vertices elements points records rows : ℕ) : Type 0 where

@@ -14,7 +14,7 @@ use Rattle.split.specs.declared.row.Row.{Row}
 use Rattle.split.specs.Split.{at}
 use Rattle.split.specs.Row.{cornersOf}
 use Rattle.tables.specs.declared.layout.Counts.{Counts}
-use Rattle.tables.specs.Layout.{noRow, pointWidth, recordWidth, rowWidth, pointCells, roomOf}
+use Rattle.tables.specs.Layout.{noRow, pointWidth, recordWidth, rowWidth, pointCells, roomOf, mostRows, mostVertices}
 use Rattle.tables.specs.Mesh.{Lent, Mesh, meshOf}
 use Rattle.tables.proofs.laws.View.{length-flat, mesh-points}
 use Rattle.intake.specs.Cells.{quads}
@@ -29,10 +29,10 @@ use Rattle.sound.proofs.laws.Laid.{mesh-rows, mesh-vertices}
 
 -- ---- tests 1 and 2, in tables that just hold the input
 
-module _ (vertices elements : ℕ) (v : vertices ≤ 20000) (e : elements ≤ 100000) where
+module _ (vertices elements : ℕ) (v : vertices ≤ mostVertices) (e : elements ≤ mostRows) where
   input-exact : (f g : ℕ) → f ≡ 3 * vertices → g ≡ 4 * elements → 1 ≤ elements → wrongInput f g ≡ false
   unfolding wrongInput
-  input-exact f g a b h = rw (eq-eqb (f % 3) 0 (omega arith), eq-eqb (g % 4) 0 (omega arith), ne-eqb g 0 (λ z. omega arith), le-ltb 60000 f (omega arith), le-ltb 400000 g (omega arith))
+  input-exact f g a b h = rw (eq-eqb (f % 3) 0 (omega arith), eq-eqb (g % 4) 0 (omega arith), ne-eqb g 0 (λ z. omega arith), le-ltb (pointWidth * mostVertices) f (omega arith), le-ltb (4 * mostRows) g (omega arith))
 
   lent-exact : wrongLent (pointWidth * vertices) (recordWidth * vertices) (rowWidth * elements) ≡ false
   unfolding wrongLent

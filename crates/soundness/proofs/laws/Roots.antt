@@ -15,7 +15,7 @@ use Rattle.split.specs.Row.{cornersOf, sameRow}
 use Rattle.split.proofs.laws.Tests.{both}
 use Rattle.split.proofs.laws.Same.{leaf-childless, row-same, same-row}
 use Rattle.tables.specs.declared.layout.Counts.{Counts}
-use Rattle.tables.specs.Layout.{noRow, pointAt, recordAt, rowAt, rowFrom, roomOf}
+use Rattle.tables.specs.Layout.{noRow, pointAt, recordAt, rowAt, rowFrom, roomOf, mostRows, mostVertices, pointWidth}
 use Rattle.tables.specs.Mesh.{Mesh, meshOf, upTo}
 use Rattle.tables.proofs.laws.View.{up-to-at, flat-up-to}
 use Rattle.tables.proofs.laws.Rows.{points}
@@ -97,10 +97,10 @@ module _ {P : List Float} {R W : List ℕ} {c : Counts} (fit : Fitting (lent P R
   pub points-within : 3 * i ≤ length P
   points-within = omega (arith, fitting-points fit, few .0)
 
-  pub points-few : 3 * i ≤ 60000
+  pub points-few : 3 * i ≤ pointWidth * mostVertices
   points-few = omega (arith, fitting-inside fit .few-vertices, few .0)
 
-  rows-few : t ≤ 100000
+  rows-few : t ≤ mostRows
   rows-few = omega (arith, fitting-inside fit .few-rows, few .1)
 
   points-given : givenPoints m i ≡ take (3 * i) P
@@ -127,18 +127,18 @@ module _ {P : List Float} {R W : List ℕ} {c : Counts} (fit : Fitting (lent P R
   read-there = record { long = refl; same = λ k q h l. sym (ap (λ (r : Row). at (cornersOf r) q) (row-there k h) ∙ each-of-four (λ q. at (cornersOf (rowFrom W (8 * k))) q ≡ getD W (8 * k + q) 0) (rw add-zero) refl refl refl q l) }
 
   -- so is the answer of `agrees`, in memory for the index
-  module _ (S : List ℕ) (room : 20000 + 4 * t ≤ length S) {b : Bool} (e : b ≡ (workable (length (take (3 * i - 0) P)) t (length (take (20000 + 4 * t - 0) S)) && agreed (take (3 * i - 0) P) (cells W (gridOf true t)) R W)) where
+  module _ (S : List ℕ) (room : mostVertices + 4 * t ≤ length S) {b : Bool} (e : b ≡ (workable (length (take (3 * i - 0) P)) t (length (take (mostVertices + 4 * t - 0) S)) && agreed (take (3 * i - 0) P) (cells W (gridOf true t)) R W)) where
     abbrev F : List Float
     F = take (3 * i - 0) P
 
     abbrev memory : ℕ
-    memory = length (take (20000 + 4 * t - 0) S)
+    memory = length (take (mostVertices + 4 * t - 0) S)
 
     p : F ≡ take (3 * i) P
     p = rw sub-zero
 
-    enough : 20000 + 4 * t ≤ memory
-    enough = rw (sub-zero (20000 + 4 * t), length-take-le (20000 + 4 * t) S room) (omega arith)
+    enough : mostVertices + 4 * t ≤ memory
+    enough = rw (sub-zero (mostVertices + 4 * t), length-take-le (mostVertices + 4 * t) S room) (omega arith)
 
     fs : givenPoints m i ≡ F
     fs = points-given ∙ sym p

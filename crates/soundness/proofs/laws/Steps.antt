@@ -9,6 +9,7 @@ use lib.Dec.{leb}
 use lib.ListN.{length, getD, take, drop, replicate, length-append, length-drop, length-replicate, getD-replicate, List·getD-append}
 use lib.Seq.{length-take-le}
 use lib.Ieee.{Float}
+use Rattle.tables.specs.Layout.{mostRows, mostVertices}
 use Rattle.tables.specs.declared.layout.Counts.{Counts}
 use Rattle.tables.specs.Mesh.{meshOf}
 use Rattle.sound.specs.Sound.{Sound, Afresh}
@@ -119,11 +120,11 @@ pub ruleset shapes = (shape-runs, shape-not)
 -- ---- in lent memory
 
 module _ (rows memory : ℕ) where
-  pub memory-small : memory < 100000 → Decides (memoryFor rows ≤ memory) false
+  pub memory-small : memory < mostRows → Decides (memoryFor rows ≤ memory) false
   memory-small h = decides-false (λ l. omega arith)
 
-  pub memory-tested : {n : ℕ} {r : Bool} → 100000 ≤ memory → n ≡ min 100000 rows → r ≡ leb (20000 + 4 * n) memory → Decides (memoryFor rows ≤ memory) r
-  memory-tested {n} h e f = record { yes = λ y. let l = leb-true (20000 + 4 * n) memory (sym f ∙ y) in omega arith; no = λ y l. let g = leb-false (20000 + 4 * n) memory (sym f ∙ y) in omega arith }
+  pub memory-tested : {n : ℕ} {r : Bool} → 100000 ≤ memory → n ≡ min mostRows rows → r ≡ leb (mostVertices + 4 * n) memory → Decides (memoryFor rows ≤ memory) r
+  memory-tested {n} h e f = record { yes = λ y. let l = leb-true (mostVertices + 4 * n) memory (sym f ∙ y) in omega arith; no = λ y l. let g = leb-false (mostVertices + 4 * n) memory (sym f ∙ y) in omega arith }
 
 -- zeros over any length, so that none are written out
 pub enough-small : (rows n : ℕ) → n ≡ 100000 → rows ≤ 20000 → memoryFor rows ≤ length (replicate {A = ℕ} n 0)
@@ -133,7 +134,7 @@ pub enough-large : (rows n : ℕ) → n ≡ 420000 → memoryFor rows ≤ length
 enough-large rows n e = rw length-replicate (omega arith)
 
 -- enough for the index of opening
-pub roots-enough : {p : List Float} {r w : List ℕ} {c : Counts} {i t n : ℕ} → Shapely p r w c i t → memoryFor (c .rows) ≤ n → 20000 + 4 * t ≤ n
+pub roots-enough : {p : List Float} {r w : List ℕ} {c : Counts} {i t n : ℕ} → Shapely p r w c i t → memoryFor (c .rows) ≤ n → mostVertices + 4 * t ≤ n
 roots-enough b h = omega (arith, b .begun .roots .within, fitting-inside (b .begun .fitting) .few-rows)
 
 pub memory-enough : (rows memory : ℕ) {e : Bool} → Decides (memoryFor rows ≤ memory) e → not e ≡ false → memoryFor rows ≤ memory
