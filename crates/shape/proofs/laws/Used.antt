@@ -103,9 +103,9 @@ zeros-at n v = go (le-or-lt n v)
     go (inl h) = List·getD-eq-default (replicate n 0) 0 (omega (arith, length-replicate {A = ℕ} n 0))
     go (inr h) = getD-replicate n v 0 0 h
 
-pub used-marked : {w flags : List ℕ} {c : Counts} {i t : ℕ} {r : Bool} → Marked w t (c .rows) flags → c .vertices ≤ length flags
+pub used-marked : {w flags : List ℕ} (c : Counts) {i t : ℕ} {r : Bool} → Marked w t (c .rows) flags → c .vertices ≤ length flags
     → Decides ((v : ℕ) → i ≤ v → v < c .vertices → getD flags v 0 ≡ 0 → ⊥) r → Decides (AllUsed w c i t) r
-used-marked {w} {flags} {c} {i} {t} m few d = decides-same (λ f v a b. m .only v (f v a b)) (λ u v a b e. go v b e (u v a b)) d
+used-marked {w} {flags} c {i} {t} m few d = decides-same (λ f v a b. m .only v (f v a b)) (λ u v a b e. go v b e (u v a b)) d
   where
     go : (v : ℕ) → v < c .vertices → getD flags v 0 ≡ 0 → (k : ℕ) × (t ≤ k) × (k < c .rows) × (middleAt w k ≡ v) → ⊥
     go v l e u = m .set (u .0) (u .1) (u .2) (rw (u .3) (omega arith)) (rw (u .3) e)

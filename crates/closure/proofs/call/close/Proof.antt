@@ -1,5 +1,5 @@
 use borrow.Author.Needs.{needs}
-use Rattle.closure.proofs.laws.Call.{close-finish, close-full, closing}
+use Rattle.closure.proofs.laws.Call.{close-finish, close-full, close-done, closing}
 use Rattle.closure.proofs.call.close.Statement.{statement}
 use Rattle.closure.proofs.call.close.Tie as tie
 
@@ -49,7 +49,7 @@ same-length-7 : tie.Need-same-length-7
 same-length-7 c = search needs
 
 returns-2 : tie.Need-returns-2
-returns-2 c = search (closing, needs)
+returns-2 c = close-done (c .before .before .before .before .before .before .before .before .before .before .before .before .before .before .before .before .before .before .before .before .before .before .before .before .before .before .before .before .before .pre) (c .before .before .before .before .before .before .before .before .before .before .before .before .before .before .before .before .before .before .before .before .before .before .before .room .ensures) (c .before .before .before .before .before .before .before .before .before .before .before .before .before .before .refine-marks .ensures) (c .before .before .before .before .before .before .step2 .given .1) (c .before .before .finish .ensures)
 
 pub close-spec : {M : Type 1} → statement M
 close-spec =

@@ -21,7 +21,7 @@ all-set-requires : tie.Need-all-set-requires
 all-set-requires c κs = search needs
 
 returns-2 : tie.Need-returns-2
-returns-2 c = decides-same (λ u. record { children = granted (c .before .before .before .before .children-follow .ensures .decides) (c .before .before .if1 .left); used = u }) (λ b. b .used) (used-marked (followed-marked (c .before .before .before .before .children-follow .ensures) (c .before .before .if1 .left)) (search needs) (c .all-set .ensures))
+returns-2 c = decides-same (λ u. record { children = granted (c .before .before .before .before .children-follow .ensures .decides) (c .before .before .if1 .left); used = u }) (λ b. b .used) (used-marked (c .before .before .before .before .before .before .before .before .args .c) (followed-marked (c .before .before .before .before .children-follow .ensures) (c .before .before .if1 .left)) (search needs) (c .all-set .ensures))
 
 pub children-fit-spec : {M : Type 1} → statement M
 children-fit-spec =
