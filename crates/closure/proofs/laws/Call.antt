@@ -255,9 +255,9 @@ pub ruleset calling = (call-refused, call-closable, call-closed)
 
 -- ---- the whole
 
-module _ {p : List Float} {r w s₀ s : List ℕ} {c : Counts} (x : Spacious (length w) (length s₀)) {b : Bool} (d : Decides (SoundIn (length s₀) (lent p r w) c) b × (s ≡ replicate (length s₀) 0)) where
+module _ {p : List Float} {r w s : List ℕ} {c : Counts} {memory : ℕ} (x : Spacious (length w) memory) {b : Bool} (d : Decides (SoundIn memory (lent p r w) c) b × (s ≡ replicate memory 0)) where
   -- sound tables have no more rows than there is room for, and then the memory is enough for the check
-  enough : Sound (lent p r w) c → SoundIn (length s₀) (lent p r w) c
+  enough : Sound (lent p r w) c → SoundIn memory (lent p r w) c
   unfolding roomOf scratchFor
   enough y = record { enough = omega (arith, x .closure, x .check, y .fitting .rows-fit); sound = y }
 
@@ -268,7 +268,7 @@ module _ {p : List Float} {r w s₀ s : List ℕ} {c : Counts} (x : Spacious (le
   refine-sound e g = let y = d .0 .yes (not-false b e) .sound in sound y (g .judged y)
 
   pub refine-callable : not b ≡ false → Callable p r w s c
-  refine-callable e = record { sound = d .0 .yes (not-false b e) .sound; fresh = record { size = rw (d .1, length-replicate {A = ℕ} (length s₀) 0) (x .closure); heads = λ v h. rw (d .1) (zeros-at (length s₀) v) } }
+  refine-callable e = record { sound = d .0 .yes (not-false b e) .sound; fresh = record { size = rw (d .1, length-replicate {A = ℕ} memory 0) (x .closure); heads = λ v h. rw (d .1) (zeros-at memory v) } }
 
 pub ruleset wholly = (refine-unsound, refine-sound, refine-callable)
 
