@@ -53,13 +53,9 @@ pub fn judge_lengths(
             place: 0,
         };
     }
-    if too_many(
-        coordinates / POINT,
-        elements / CORNERS,
-        points,
-        records,
-        rows,
-    ) {
+    let vertices = coordinates / POINT;
+    let count = elements / CORNERS;
+    if too_many(vertices, count, points, records, rows) {
         return Verdict::Refused {
             number: 2,
             place: 0,

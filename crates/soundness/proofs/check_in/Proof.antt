@@ -7,8 +7,8 @@ use Rattle.soundness.proofs.check_in.Tie as tie
 is-enough-requires : tie.Need-is-enough-requires
 is-enough-requires c κs = search needs
 
-clear-requires : tie.Need-clear-requires
-clear-requires c κs = search needs
+clear-short : tie.Need-clear-requires
+clear-short c κs = search needs
 
 same-length : tie.Need-same-length
 same-length c = search needs
@@ -19,8 +19,8 @@ returns c = (search (memory-short, needs), search needs)
 decide-requires : tie.Need-decide-requires
 decide-requires c κs = search (memory-enough, needs)
 
-clear-requires-2 : tie.Need-clear-requires-2
-clear-requires-2 c κs = search needs
+clear-whole : tie.Need-clear-requires-2
+clear-whole c κs = search needs
 
 same-length-2 : tie.Need-same-length-2
 same-length-2 c = search needs
@@ -33,10 +33,10 @@ check-in-spec =
     tie.close
     (tie.spec
     is-enough-requires
-    clear-requires
+    clear-short
     same-length
     returns
     decide-requires
-    clear-requires-2
+    clear-whole
     same-length-2
     returns-2)
