@@ -5,6 +5,7 @@ use Prim.Native.Nat.{ℕ, _+_, _*_, _/_}
 use lib.ListN.{length, getD}
 use Rattle.tables.specs.Layout.{rowWidth}
 use Rattle.intake.specs.declared.grid.Grid.{Grid}
+use Rattle.intake.specs.declared.grid.Four.{Four}
 
 pub record Cells : Type 0 where
   pub count : ℕ
@@ -23,3 +24,7 @@ cells T g = record { count = g .count; vertex = λ k q. getD T (stride (g .rows)
 -- a list with four numbers an element
 abbrev pub quads : List ℕ → Cells
 quads E = record { count = length E / 4; vertex = λ k q. getD E (4 * k + q) 0 }
+
+-- the four vertices of element k
+unfoldable pub fourOf : Cells → ℕ → Four
+fourOf E k = record { a = E .vertex k 0; b = E .vertex k 1; c = E .vertex k 2; d = E .vertex k 3 }

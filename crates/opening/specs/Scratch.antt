@@ -13,6 +13,7 @@ use Rattle.intake.specs.declared.answer.Found.{Found}
 use Rattle.intake.specs.declared.answer.Found.the-variants.{Nowhere}
 use Rattle.intake.specs.declared.answer.Verdict.{Verdict}
 use Rattle.intake.specs.declared.answer.Verdict.the-variants.{Passed}
+use Rattle.intake.specs.declared.grid.Four.{Four}
 use Rattle.opening.specs.declared.faces.Seen.{Seen}
 use Rattle.opening.specs.declared.faces.Met.{Met}
 use Rattle.intake.specs.Verdict.{at, plain}
@@ -81,10 +82,37 @@ pub record Few (s : Seen) : Type 0 where
 abbrev pub one : Bool → ℕ
 one t = cond t 1 0
 
--- r says whether element k holds v
-pub record Held (E : Cells) (k v r : ℕ) : Type 0 where
-  pub is : r ≡ one (has E k v)
+-- r says whether two numbers are equal
+pub record Is (a b r : ℕ) : Type 0 where
+  pub is : r ≡ one (eqb a b)
   pub small : r ≤ 1
+
+-- four different vertices
+pub record Different (w : Four) : Type 0 where
+  pub ab : w .a ≡ w .b → ⊥
+  pub ac : w .a ≡ w .c → ⊥
+  pub ad : w .a ≡ w .d → ⊥
+  pub bc : w .b ≡ w .c → ⊥
+  pub bd : w .b ≡ w .d → ⊥
+  pub cd : w .c ≡ w .d → ⊥
+
+unfoldable pub among : Four → ℕ → Bool
+among w v = eqb (w .a) v || (eqb (w .b) v || (eqb (w .c) v || eqb (w .d) v))
+
+-- r says whether one of four vertices is v
+pub record Held (w : Four) (v r : ℕ) : Type 0 where
+  pub is : r ≡ one (among w v)
+  pub small : r ≤ 1
+
+-- the vertex at a place of four, and all four from this place on
+unfoldable pub placeOf : Four → ℕ → ℕ
+placeOf w zero = w .a
+placeOf w (suc zero) = w .b
+placeOf w (suc (suc zero)) = w .c
+placeOf w (suc (suc (suc q))) = w .d
+
+unfoldable pub turnedOf : Four → ℕ → Four
+turnedOf w m = record { a = placeOf w m; b = placeOf w ((m + 1) % 4); c = placeOf w ((m + 2) % 4); d = placeOf w ((m + 3) % 4) }
 
 -- one element more, which holds a, b, c or not
 unfoldable pub noted : Bool → Bool → Bool → Seen → Seen

@@ -3,7 +3,7 @@ use Prim.Native.Nat.{ℕ, _<_}
 use Rattle.tables.specs.Layout.{mostVertices}
 use Rattle.split.specs.Split.{Corners, corners}
 use Rattle.opening.specs.declared.order.Two.{Two}
-use Rattle.opening.specs.declared.order.Four.{Four}
+use Rattle.intake.specs.declared.grid.Four.{Four}
 use Rattle.opening.specs.Order.{lower, upper}
 
 abbrev pub four : Four → Corners ℕ

@@ -3,7 +3,7 @@ use crate::index::LINKS;
 use chain::wide;
 use intake::answer::Found;
 use intake::grid::Grid;
-use intake::grid::vertex_at;
+use intake::grid::corners;
 ghost use mathlib.Core.Path.{_≡_};
 ghost use Prim.Native.Nat.{_<_, _≤_, min};
 ghost use lib.ListN.{length};
@@ -41,10 +41,11 @@ fn mark_element(
     requires { ⌜ k < grid .count ⌝ }
     ensures { λ _. ⌜ now (flags .exit) ≡ markedAll (cells (now (elements .entry)) grid) (now (paint .entry)) v k (now (flags .entry)) ⌝ }
 {
-    mark(paint, v, vertex_at(elements, grid, k, 0), flags);
-    mark(paint, v, vertex_at(elements, grid, k, 1), flags);
-    mark(paint, v, vertex_at(elements, grid, k, 2), flags);
-    mark(paint, v, vertex_at(elements, grid, k, 3), flags);
+    let w = corners(elements, grid, k);
+    mark(paint, v, wide(w.a), flags);
+    mark(paint, v, wide(w.b), flags);
+    mark(paint, v, wide(w.c), flags);
+    mark(paint, v, wide(w.d), flags);
 }
 
 // Marks the colours of all smaller neighbours of v.

@@ -1,14 +1,16 @@
 // Numbers 6 and 7 at one element, through the index of the elements before it: the same four vertices before, a face in two elements before.
 use crate::index::LINKS;
+use crate::index::place;
 use chain::wide;
+use intake::grid::Four;
 use intake::grid::Grid;
-use intake::grid::vertex_at;
+use intake::grid::corners;
 ghost use mathlib.Core.Path.{_≡_};
 ghost use Prim.Native.Nat.{_*_, _/_, _<_, _+_};
 ghost use lib.ListN.{length};
-ghost use Rattle.intake.specs.Cells.{cells};
+ghost use Rattle.intake.specs.Cells.{cells, fourOf};
 ghost use Rattle.intake.specs.Causes.{has};
-ghost use Rattle.opening.specs.Scratch.{Plain, Filled, Chosen, Other, Held, Few, noted, Counted, crowd, Around, Meets};
+ghost use Rattle.opening.specs.Scratch.{Plain, Filled, Chosen, Other, Is, Different, turnedOf, Held, Few, noted, Counted, crowd, Around, Meets};
 
 // Of the elements that hold a vertex: how many hold all of a, b and c, and how many hold two of them.
 pub struct Seen {
@@ -24,33 +26,34 @@ pub struct Met {
     pub third: bool,
 }
 
-// 1 where element k holds v, else 0.
-fn holds(elements: &[u32], grid: Grid, k: usize, v: usize) -> usize
-    ensures { λ r. ⌜ Held (cells (now (elements .entry)) grid) k v r ⌝ }
+// 1 where two numbers are equal, else 0.
+fn is(a: u32, b: u32) -> u32
+    ensures { λ r. ⌜ Is a b r ⌝ }
 {
-    if vertex_at(elements, grid, k, 0) == v {
-        return 1;
-    }
-    if vertex_at(elements, grid, k, 1) == v {
-        return 1;
-    }
-    if vertex_at(elements, grid, k, 2) == v {
-        return 1;
-    }
-    if vertex_at(elements, grid, k, 3) == v {
+    if a == b {
         return 1;
     }
     0
 }
 
+// 1 where one of four different vertices is v, else 0. A sum without branches: no test would be foreseen.
+fn holds(w: Four, v: u32) -> usize
+    requires { ⌜ Different w ⌝ }
+    ensures { λ r. ⌜ Held w v r ⌝ }
+{
+    wide(is(w.a, v) + is(w.b, v) + is(w.c, v) + is(w.d, v))
+}
+
 // Element j is seen: which of a, b and c it holds.
-fn note(elements: &[u32], grid: Grid, j: usize, a: usize, b: usize, c: usize, s: Seen) -> Seen
+fn note(elements: &[u32], grid: Grid, j: usize, a: u32, b: u32, c: u32, s: Seen) -> Seen
+    requires { ⌜ Different (fourOf (cells (now elements) grid) j) ⌝ }
     requires { ⌜ Few s ⌝ }
     ensures { λ r. ⌜ r ≡ noted (has (cells (now (elements .entry)) grid) j a) (has (cells (now (elements .entry)) grid) j b) (has (cells (now (elements .entry)) grid) j c) s ⌝ }
 {
-    let x = holds(elements, grid, j, a);
-    let y = holds(elements, grid, j, b);
-    let z = holds(elements, grid, j, c);
+    let w = corners(elements, grid, j);
+    let x = holds(w, a);
+    let y = holds(w, b);
+    let z = holds(w, c);
     let ab = x * y;
     let ac = x * z;
     let bc = y * z;
@@ -70,9 +73,9 @@ fn tally(
     vertices: usize,
     k: usize,
     v: usize,
-    a: usize,
-    b: usize,
-    c: usize,
+    a: u32,
+    b: u32,
+    c: u32,
 ) -> Seen
     requires { ⌜ Plain vertices (cells (now elements) grid) ⌝ }
     requires { ⌜ Filled (cells (now elements) grid) (4 * k) (now index) ⌝ }
@@ -106,29 +109,25 @@ fn used_less(uses: &[u32], a: usize, b: usize) -> bool {
     uses[a] < uses[b]
 }
 
-// Of two places of element k that whose vertex is used less.
-fn rarer(elements: &[u32], grid: Grid, uses: &[u32], k: usize, p: usize, q: usize) -> usize
+// Of two places of an element that whose vertex is used less.
+fn rarer(w: Four, uses: &[u32], p: usize, q: usize) -> usize
     requires { ⌜ p < 4 ⌝ }
     requires { ⌜ q < 4 ⌝ }
     ensures { λ r. ⌜ Chosen p q r ⌝ }
 {
-    if used_less(
-        uses,
-        vertex_at(elements, grid, k, q),
-        vertex_at(elements, grid, k, p),
-    ) {
+    if used_less(uses, wide(place(w, q)), wide(place(w, p))) {
         return q;
     }
     p
 }
 
-// Of the other places of element k than m that whose vertex is used least.
-fn other(elements: &[u32], grid: Grid, uses: &[u32], k: usize, m: usize) -> usize
+// Of the other places of an element than m that whose vertex is used least.
+fn other(w: Four, uses: &[u32], m: usize) -> usize
     requires { ⌜ m < 4 ⌝ }
     ensures { λ r. ⌜ Other m r ⌝ }
 {
-    let p = rarer(elements, grid, uses, k, (m + 1) % 4, (m + 2) % 4);
-    rarer(elements, grid, uses, k, p, (m + 3) % 4)
+    let p = rarer(w, uses, (m + 1) % 4, (m + 2) % 4);
+    rarer(w, uses, p, (m + 3) % 4)
 }
 
 // Whether two elements hold the same two of three vertices.
@@ -144,19 +143,38 @@ fn crowded(s: Seen) -> bool
     1 < s.bc
 }
 
-// Number 6 at element k, and number 7 at its three faces that hold the vertex at place m.
-fn around(elements: &[u32], grid: Grid, index: &[u32], vertices: usize, k: usize, m: usize) -> Met
+// Four vertices from place m on.
+fn turned(w: Four, m: usize) -> Four
+    requires { ⌜ m < 4 ⌝ }
+    ensures { λ r. ⌜ r ≡ turnedOf w m ⌝ }
+{
+    Four {
+        a: place(w, m),
+        b: place(w, (m + 1) % 4),
+        c: place(w, (m + 2) % 4),
+        d: place(w, (m + 3) % 4),
+    }
+}
+
+// Number 6 at element k, whose vertices are w, and number 7 at its three faces that hold the vertex at place m.
+fn around(
+    elements: &[u32],
+    grid: Grid,
+    index: &[u32],
+    vertices: usize,
+    k: usize,
+    w: Four,
+    m: usize,
+) -> Met
     requires { ⌜ Plain vertices (cells (now elements) grid) ⌝ }
     requires { ⌜ Filled (cells (now elements) grid) (4 * k) (now index) ⌝ }
     requires { ⌜ k < grid .count ⌝ }
+    requires { ⌜ w ≡ fourOf (cells (now elements) grid) k ⌝ }
     requires { ⌜ m < 4 ⌝ }
     ensures { λ r. ⌜ Around (cells (now (elements .entry)) grid) k m r ⌝ }
 {
-    let v = vertex_at(elements, grid, k, m);
-    let a = vertex_at(elements, grid, k, (m + 1) % 4);
-    let b = vertex_at(elements, grid, k, (m + 2) % 4);
-    let c = vertex_at(elements, grid, k, (m + 3) % 4);
-    let s = tally(elements, grid, index, vertices, k, v, a, b, c);
+    let t = turned(w, m);
+    let s = tally(elements, grid, index, vertices, k, wide(t.a), t.b, t.c, t.d);
     Met {
         same: 0 < s.all,
         third: crowded(s),
@@ -177,24 +195,11 @@ pub fn meets(
     requires { ⌜ k < grid .count ⌝ }
     ensures { λ r. ⌜ Meets (cells (now (elements .entry)) grid) k r ⌝ }
 {
-    let m = rarer(
-        elements,
-        grid,
-        uses,
-        k,
-        0,
-        other(elements, grid, uses, k, 0),
-    );
-    let near = around(elements, grid, index, vertices, k, m);
+    let w = corners(elements, grid, k);
+    let m = rarer(w, uses, 0, other(w, uses, 0));
+    let near = around(elements, grid, index, vertices, k, w, m);
     if near.third {
         return near;
     }
-    around(
-        elements,
-        grid,
-        index,
-        vertices,
-        k,
-        other(elements, grid, uses, k, m),
-    )
+    around(elements, grid, index, vertices, k, w, other(w, uses, m))
 }

@@ -1,6 +1,7 @@
 // The order of a root's vertices: sorted by colour, the last in front exactly if its colour is N (Definition 2).
+use intake::grid::Four;
 use intake::grid::Grid;
-use intake::grid::number_at;
+use intake::grid::corners;
 use split::row::Row;
 use split::row::root;
 ghost use mathlib.Core.Path.{_≡_};
@@ -14,17 +15,10 @@ ghost use Rattle.opening.specs.Order.{sorted, rootOf};
 ghost use Rattle.opening.specs.Scratch.{paintLength, Plain, colourIn};
 ghost use Rattle.opening.specs.Sorting.{four, inOrder, Low};
 
-// Two vertices in the order of their colours, and four on their way into a row.
+// Two vertices in the order of their colours.
 pub struct Two {
     pub low: u32,
     pub high: u32,
-}
-
-pub struct Four {
-    pub a: u32,
-    pub b: u32,
-    pub c: u32,
-    pub d: u32,
 }
 
 fn colour_in(paint: &[u32], v: u32) -> u32
@@ -99,11 +93,7 @@ pub fn root_row(
     requires { ⌜ k < 4294967296 ⌝ }
     ensures { λ r. ⌜ r ≡ rootOf n (colourIn (now (paint .entry))) (cells (now (elements .entry)) grid) k ⌝ }
 {
-    let a = number_at(elements, grid, k, 0);
-    let b = number_at(elements, grid, k, 1);
-    let c = number_at(elements, grid, k, 2);
-    let d = number_at(elements, grid, k, 3);
-    let w = Four { a, b, c, d };
+    let w = corners(elements, grid, k);
     let f = arrange(paint, n, sort(paint, w));
     root(3, k as u32, f.a, f.b, f.c, f.d)
 }

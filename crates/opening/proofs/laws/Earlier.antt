@@ -9,11 +9,12 @@ use Rattle.tables.specs.Layout.{mostRows}
 use Rattle.chain.specs.Chain.{latest}
 use Rattle.chain.proofs.laws.Index.{next-link}
 use Rattle.chain.proofs.laws.Walk.{latest-below}
-use Rattle.intake.specs.Cells.{Cells}
+use Rattle.intake.specs.Cells.{Cells, fourOf}
 use Rattle.opening.specs.declared.faces.Seen.{Seen}
 use Rattle.intake.specs.Search.{count}
 use Rattle.intake.specs.Causes.{has}
-use Rattle.opening.specs.Scratch.{linksAt, slot, Plain, Filled, one, Few, noted, Counted}
+use Rattle.opening.specs.Scratch.{linksAt, slot, Plain, Filled, one, Different, Few, noted, Counted}
+use Rattle.opening.proofs.laws.Faces.{plain-different}
 use Rattle.opening.proofs.laws.Corners.{elements-visits}
 use Rattle.opening.proofs.laws.Walking.{visits-below, Walking, walk-start, walk-key, walk-next, walk-end}
 
@@ -55,6 +56,9 @@ module _ {vertices : ℕ} {E : Cells} {index : List ℕ} (k v : ℕ) (x : Plain 
     pub tally-few : k < E .count → Few s
     tally-few h = record { all = few (holdsThree E a b c) h (t .all); ab = few (holdsTwo E a b) h (t .ab); ac = few (holdsTwo E a c) h (t .ac); bc = few (holdsTwo E b c) h (t .bc) }
 
+    pub tally-different : k < E .count → 0 < at → Different (fourOf E ((at - 1) / 4))
+    tally-different h l = plain-different ((at - 1) / 4) x (omega (arith, t .all .below))
+
     pub tally-next : {s' : Seen} {to : ℕ} → 0 < at → s' ≡ noted (has E ((at - 1) / 4) a) (has E ((at - 1) / 4) b) (has E ((at - 1) / 4) c) s → to ≡ getD index (linksAt + (at - 1)) 0 → Tally E k v a b c s' to
     unfolding noted
     tally-next l e g = rw e (record { all = next (holdsThree E a b c) (t .all) l g; ab = next (holdsTwo E a b) (t .ab) l g; ac = next (holdsTwo E a c) (t .ac) l g; bc = next (holdsTwo E b c) (t .bc) l g })
@@ -65,4 +69,4 @@ module _ {vertices : ℕ} {E : Cells} {index : List ℕ} (k v : ℕ) (x : Plain 
     pub tally-end : k < E .count → at ≤ 0 → Counted E k v a b c s
     tally-end h z = record { all = total (holdsThree E a b c) h (t .all) z; ab = total (holdsTwo E a b) h (t .ab) z; ac = total (holdsTwo E a c) h (t .ac) z; bc = total (holdsTwo E b c) h (t .bc) z }
 
-pub ruleset tallying = (tally-start, tally-few, tally-next, tally-falls, tally-end)
+pub ruleset tallying = (tally-start, tally-few, tally-different, tally-next, tally-falls, tally-end)

@@ -10,41 +10,102 @@ use native.Mathlib.Omega.{arith}
 use mir.Syntax.{w64}
 use mir.Val.{Fits}
 use mir.Facts.{fits-below}
-use borrow.Author.Tests.{eq-eqb, ne-eqb}
-use lib.Dec.{ltb, leb}
+use borrow.Author.Tests.{eq-eqb, ne-eqb, eqb-true}
+use lib.Dec.{eqb, ltb, leb}
 use lib.ListN.{length}
 use Rattle.tables.specs.Layout.{mostRows}
-use Rattle.intake.specs.Cells.{Cells}
+use Rattle.intake.specs.Cells.{Cells, fourOf}
+use Rattle.intake.specs.declared.grid.Four.{Four}
 use Rattle.opening.specs.declared.faces.Seen.{Seen}
 use Rattle.opening.specs.declared.faces.Met.{Met}
 use Rattle.intake.specs.Causes.{vertex, has, before, same, third}
-use Rattle.opening.specs.Scratch.{Plain, Chosen, Other, one, Held, noted, Counted, crowd, opposite, Around, Meets}
+use Rattle.opening.specs.Scratch.{Plain, Chosen, Other, one, Is, Different, among, Held, placeOf, turnedOf, noted, Counted, crowd, opposite, Around, Meets}
 use Rattle.opening.proofs.laws.Counting.{any-count, count-same}
 
--- element k holds v, looked for at one place after the other
-module _ (E : Cells) (k v : ℕ) where
-  held : has E k v ≡ true → Held E k v 1
-  held e = record { is = rw e; small = omega arith }
+-- ---- the four vertices of an element
 
-  pub holds-first : {a : ℕ} → a ≡ vertex E k 0 → a ≡ v → Held E k v 1
-  unfolding has
-  holds-first e p = held (rw (eq-eqb (vertex E k 0) v (sym e ∙ p)))
+pub is-same : {a b : ℕ} → a ≡ b → Is a b 1
+is-same {a} {b} e = record { is = rw (eq-eqb a b e); small = omega arith }
 
-  pub holds-second : {a : ℕ} → a ≡ vertex E k 1 → a ≡ v → Held E k v 1
-  unfolding has
-  holds-second e p = held (rw (eq-eqb (vertex E k 1) v (sym e ∙ p), or-true))
+pub is-other : {a b : ℕ} → (a ≡ b → ⊥) → Is a b 0
+is-other {a} {b} e = record { is = rw (ne-eqb a b e); small = omega arith }
 
-  pub holds-third : {a : ℕ} → a ≡ vertex E k 2 → a ≡ v → Held E k v 1
-  unfolding has
-  holds-third e p = held (rw (eq-eqb (vertex E k 2) v (sym e ∙ p), or-true, or-true))
+-- of four tests that exclude each other the sum says whether one holds
+abbrev Not : Bool → Bool → Type 0
+Not p q = p ≡ true → q ≡ true → ⊥
 
-  pub holds-last : {a : ℕ} → a ≡ vertex E k 3 → a ≡ v → Held E k v 1
-  unfolding has
-  holds-last e p = held (rw (eq-eqb (vertex E k 3) v (sym e ∙ p), or-true, or-true, or-true))
+sum-any : (p q r t : Bool) → Not p q → Not p r → Not p t → Not q r → Not q t → Not r t → one p + one q + one r + one t ≡ one (p || (q || (r || t)))
+sum-any true true r t x y z u v w = absurd (x refl refl)
+sum-any true false true t x y z u v w = absurd (y refl refl)
+sum-any true false false true x y z u v w = absurd (z refl refl)
+sum-any true false false false x y z u v w = refl
+sum-any false true true t x y z u v w = absurd (u refl refl)
+sum-any false true false true x y z u v w = absurd (v refl refl)
+sum-any false true false false x y z u v w = refl
+sum-any false false true true x y z u v w = absurd (w refl refl)
+sum-any false false true false x y z u v w = refl
+sum-any false false false true x y z u v w = refl
+sum-any false false false false x y z u v w = refl
 
-  pub holds-none : {a b c d : ℕ} → a ≡ vertex E k 0 → (a ≡ v → ⊥) → b ≡ vertex E k 1 → (b ≡ v → ⊥) → c ≡ vertex E k 2 → (c ≡ v → ⊥) → d ≡ vertex E k 3 → (d ≡ v → ⊥) → Held E k v 0
-  unfolding has
-  holds-none e p f q g r h s = record { is = rw (← e, ← f, ← g, ← h, ne-eqb _ v p, ne-eqb _ v q, ne-eqb _ v r, ne-eqb _ v s); small = omega arith }
+one-small : (b : Bool) → one b ≤ 1
+one-small true = omega arith
+one-small false = omega arith
+
+pub held-sum : (w : Four) (v : ℕ) {p q r t n : ℕ} → Different w → Is (w .a) v p → Is (w .b) v q → Is (w .c) v r → Is (w .d) v t → n ≡ p + q + r + t → Held w v n
+unfolding among
+held-sum w v {n = n} d p q r t e = record { is = is; small = rw is (one-small (eqb (w .a) v || (eqb (w .b) v || (eqb (w .c) v || eqb (w .d) v)))) }
+  where
+    not : (a b : ℕ) → (a ≡ b → ⊥) → Not (eqb a v) (eqb b v)
+    not a b x y z = x (eqb-true a v y ∙ sym (eqb-true b v z))
+
+    is : n ≡ one (eqb (w .a) v || (eqb (w .b) v || (eqb (w .c) v || eqb (w .d) v)))
+    is = rw (e, p .is, q .is, r .is, t .is) (sum-any _ _ _ _ (not _ _ (d .ab)) (not _ _ (d .ac)) (not _ _ (d .ad)) (not _ _ (d .bc)) (not _ _ (d .bd)) (not _ _ (d .cd)))
+
+pub plain-different : {vertices : ℕ} {E : Cells} (k : ℕ) → Plain vertices E → k < E .count → Different (fourOf E k)
+unfolding fourOf
+plain-different {E = E} k x h = record { ab = not 0 1 (omega arith) (omega arith) (omega arith); ac = not 0 2 (omega arith) (omega arith) (omega arith); ad = not 0 3 (omega arith) (omega arith) (omega arith); bc = not 1 2 (omega arith) (omega arith) (omega arith); bd = not 1 3 (omega arith) (omega arith) (omega arith); cd = not 2 3 (omega arith) (omega arith) (omega arith) }
+  where
+    not : (p q : ℕ) → p < 4 → q < 4 → p < q → vertex E k p ≡ vertex E k q → ⊥
+    not p q l m n e = absurd (omega (arith, x .apart k p q h l m e))
+
+pub read-different : (E : Cells) (k : ℕ) {w : Four} → Different (fourOf E k) → w ≡ fourOf E k → Different w
+read-different E k d e = rw e d
+
+pub place-first : (w : Four) {q : ℕ} → q ≡ 0 → w .a ≡ placeOf w q
+unfolding placeOf
+place-first w e = rw e
+
+pub place-second : (w : Four) {q : ℕ} → q ≡ 1 → w .b ≡ placeOf w q
+unfolding placeOf
+place-second w e = rw e
+
+pub place-third : (w : Four) {q : ℕ} → q ≡ 2 → w .c ≡ placeOf w q
+unfolding placeOf
+place-third w e = rw e
+
+pub place-last : (w : Four) (q : ℕ) → (q ≡ 0 → ⊥) → (q ≡ 1 → ⊥) → (q ≡ 2 → ⊥) → w .d ≡ placeOf w q
+unfolding placeOf
+place-last w zero x y z = absurd (x refl)
+place-last w (suc zero) x y z = absurd (y refl)
+place-last w (suc (suc zero)) x y z = absurd (z refl)
+place-last w (suc (suc (suc q))) x y z = refl
+
+pub ruleset placing = (place-first, place-second, place-third, place-last)
+
+place-is : (E : Cells) (k q : ℕ) → q < 4 → placeOf (fourOf E k) q ≡ vertex E k q
+unfolding placeOf fourOf
+place-is E k zero h = refl
+place-is E k (suc zero) h = refl
+place-is E k (suc (suc zero)) h = refl
+place-is E k (suc (suc (suc zero))) h = refl
+place-is E k (suc (suc (suc (suc q)))) h = absurd (omega arith)
+
+pub place-vertex : (E : Cells) {w : Four} {r v : ℕ} (k q : ℕ) → w ≡ fourOf E k → q < 4 → r ≡ placeOf w q → v ≡ r → v ≡ vertex E k q
+place-vertex E k q e h g i = i ∙ g ∙ rw e (place-is E k q h)
+
+pub turned-is : (w : Four) (m : ℕ) {a b c d : ℕ} → a ≡ placeOf w m → b ≡ placeOf w ((m + 1) % 4) → c ≡ placeOf w ((m + 2) % 4) → d ≡ placeOf w ((m + 3) % 4) → _≡_ {A = Four} (record { a = a; b = b; c = c; d = d }) (turnedOf w m)
+unfolding turnedOf
+turned-is w m p q r t = rw (p, q, r, t)
 
 -- the order of four tests does not matter: they may begin at any of them
 turned : (a b c d : Bool) → b && (c && (d && a)) ≡ a && (b && (c && d))
@@ -125,7 +186,7 @@ module _ (E : Cells) (k : ℕ) where
   unfolding same
   same-counted {m} h x = rw (x .all, any-count, count-same _ _ k (λ j l. all-turned (λ i. has E j (vertex E k i)) m h))
 
-  pub around-counted : {m v a b c : ℕ} {s : Seen} {r : Bool} → m < 4 → v ≡ vertex E k m → a ≡ vertex E k ((m + 1) % 4) → b ≡ vertex E k ((m + 2) % 4) → c ≡ vertex E k ((m + 3) % 4) → Counted E k v a b c s → r ≡ crowd s → Around E k m (record { same = ltb 0 (s .all); third = r })
+  around-counted : {m v a b c : ℕ} {s : Seen} {r : Bool} → m < 4 → v ≡ vertex E k m → a ≡ vertex E k ((m + 1) % 4) → b ≡ vertex E k ((m + 2) % 4) → c ≡ vertex E k ((m + 3) % 4) → Counted E k v a b c s → r ≡ crowd s → Around E k m (record { same = ltb 0 (s .all); third = r })
   around-counted {m} {s = s} h p q r t x e =
       let y : At E k m s = rw (← p, ← q, ← r, ← t) x in
       record { same = same-counted h y; some = λ g. crowd-some h y (sym e ∙ g); none = λ g. crowd-none h y (sym e ∙ g) }
@@ -145,8 +206,22 @@ module _ (E : Cells) (k : ℕ) where
           pick i l (yes q) = y .none e i l (λ z. d .apart (sym z ∙ q))
           pick i l (no q) = x .none t i l q
 
-pub vertex-there : {vertices v : ℕ} {E : Cells} (k m : ℕ) → Plain vertices E → k < E .count → m < 4 → v ≡ vertex E k m → v < vertices
-vertex-there k m x h l e = rw e (x .there k m h l)
+-- the vertices from place m on, as they are read
+record Turned (E : Cells) (k m : ℕ) (t : Four) : Type 0 where
+  a : t .a ≡ vertex E k m
+  b : t .b ≡ vertex E k ((m + 1) % 4)
+  c : t .c ≡ vertex E k ((m + 2) % 4)
+  d : t .d ≡ vertex E k ((m + 3) % 4)
+
+read-turned : {E : Cells} {k m : ℕ} {w t : Four} → w ≡ fourOf E k → m < 4 → t ≡ turnedOf w m → Turned E k m t
+unfolding turnedOf
+read-turned {E} {k} {m} e h g = rw (g, e) (record { a = place-is E k m h; b = place-is E k ((m + 1) % 4) (omega arith); c = place-is E k ((m + 2) % 4) (omega arith); d = place-is E k ((m + 3) % 4) (omega arith) })
+
+pub turned-there : {vertices v : ℕ} {E : Cells} {w t : Four} (k m : ℕ) → Plain vertices E → k < E .count → w ≡ fourOf E k → m < 4 → t ≡ turnedOf w m → v ≡ t .a → v < vertices
+turned-there {E = E} k m x h e l g i = let u = read-turned {E = E} {k = k} {m = m} e l g in omega (arith, i, u .a, x .there k m h l)
+
+pub around-turned : (E : Cells) (k m : ℕ) {v : ℕ} {w t : Four} {s : Seen} {r : Bool} → w ≡ fourOf E k → m < 4 → t ≡ turnedOf w m → v ≡ t .a → Counted E k v (t .b) (t .c) (t .d) s → r ≡ crowd s → Around E k m (record { same = ltb 0 (s .all); third = r })
+around-turned E k m e h g i x f = let u = read-turned {E = E} {k = k} {m = m} e h g in around-counted E k h (i ∙ u .a) (u .b) (u .c) (u .d) x f
 
 -- a place other than m, chosen in two steps
 pub other-chosen : {m p q : ℕ} → m < 4 → Chosen ((m + 1) % 4) ((m + 2) % 4) p → Chosen p ((m + 3) % 4) q → Other m q
@@ -177,7 +252,9 @@ sum-fits n p h l = fits-below {n = 400001} tt (omega arith)
 
 pub ruleset products = (product-small, product-fits, sum-fits)
 
-pub noted-held : {E : Cells} {j a b c x y z : ℕ} (s : Seen) → Held E j a x → Held E j b y → Held E j c z → _≡_ {A = Seen} (record { all = s .all + x * (y * z); ab = s .ab + x * y; ac = s .ac + x * z; bc = s .bc + y * z }) (noted (has E j a) (has E j b) (has E j c) s)
-unfolding noted
-noted-held {E} {j} {a} {b} {c} s e f g =
-    rw (e .is, f .is, g .is, ones (has E j b) (has E j c), ones (has E j a) (has E j b), ones (has E j a) (has E j c), ones (has E j a) (has E j b && has E j c))
+pub noted-held : (E : Cells) {w : Four} (j : ℕ) {a b c x y z : ℕ} (s : Seen) → w ≡ fourOf E j → Held w a x → Held w b y → Held w c z → _≡_ {A = Seen} (record { all = s .all + x * (y * z); ab = s .ab + x * y; ac = s .ac + x * z; bc = s .bc + y * z }) (noted (has E j a) (has E j b) (has E j c) s)
+unfolding noted has among fourOf
+noted-held E {w} j {a} {b} {c} s k e f g = rw (e .is, f .is, g .is) (rw k (go (has E j a) (has E j b) (has E j c)))
+  where
+    go : (p q r : Bool) → _≡_ {A = Seen} (record { all = s .all + one p * (one q * one r); ab = s .ab + one p * one q; ac = s .ac + one p * one r; bc = s .bc + one q * one r }) (record { all = s .all + one (p && (q && r)); ab = s .ab + one (p && q); ac = s .ac + one (p && r); bc = s .bc + one (q && r) })
+    go p q r = rw (ones q r, ones p q, ones p r, ones p (q && r))

@@ -13,10 +13,12 @@ use Rattle.tables.specs.Layout.{mostVertices}
 use Rattle.chain.specs.Chain.{latest}
 use Rattle.chain.proofs.laws.Walk.{latest-between, latest-below, latest-some}
 use Rattle.chain.proofs.laws.Index.{next-link}
-use Rattle.intake.specs.Cells.{Cells}
+use Rattle.intake.specs.Cells.{Cells, fourOf}
+use Rattle.intake.specs.declared.grid.Four.{Four}
 use Rattle.intake.specs.Causes.{vertex, has}
 use Rattle.opening.specs.Colours.{taken, colours}
 use Rattle.opening.specs.Scratch.{linksAt, slot, colourIn, Plain, Ready, Painted, Flags, marked, markedAll, Marks}
+use Rattle.opening.proofs.laws.Sorting.{read-low}
 use Rattle.opening.proofs.laws.Free.{flagged, flagged-set, flagged-clear}
 use Rattle.opening.proofs.laws.Colours.{Neighbour, taken-has, taken-some, has-place, has-some}
 
@@ -75,8 +77,22 @@ module _ (paint : List ℕ) (v u : ℕ) (flags : List ℕ) where
 -- ---- the four marks of an element
 
 -- its vertices are there
-pub vertex-few : {vertices r : ℕ} {E : Cells} (k q : ℕ) → Plain vertices E → r ≡ vertex E k q → k < E .count → q ≤ 3 → r < mostVertices
-vertex-few k q p e h l = omega (arith, p .there k q h (omega arith), p .most)
+module _ {vertices : ℕ} {E : Cells} (k : ℕ) {w : Four} {u : ℕ} (x : Plain vertices E) (e : w ≡ fourOf E k) (h : k < E .count) where
+  pub few-first : u ≡ w .a → u < mostVertices
+  few-first i = omega (arith, read-low E k e x h)
+
+  pub few-second : u ≡ w .b → u < mostVertices
+  few-second i = omega (arith, read-low E k e x h)
+
+  pub few-third : u ≡ w .c → u < mostVertices
+  few-third i = omega (arith, read-low E k e x h)
+
+  pub few-last : u ≡ w .d → u < mostVertices
+  few-last i = omega (arith, read-low E k e x h)
+
+pub marked-four : (E : Cells) (paint : List ℕ) (v k : ℕ) {w : Four} {p q r t : ℕ} (f₀ : List ℕ) {f₁ f₂ f₃ f₄ : List ℕ} → w ≡ fourOf E k → p ≡ w .a → f₁ ≡ marked paint v p f₀ → q ≡ w .b → f₂ ≡ marked paint v q f₁ → r ≡ w .c → f₃ ≡ marked paint v r f₂ → t ≡ w .d → f₄ ≡ marked paint v t f₃ → f₄ ≡ markedAll E paint v k f₀
+unfolding markedAll fourOf
+marked-four E paint v k f e a h b i c j d l = rw (l, d, j, c, i, b, h, a, e)
 
 module _ (E : Cells) (paint : List ℕ) (v k : ℕ) where
   -- what each of them keeps, all four keep

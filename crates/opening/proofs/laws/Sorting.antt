@@ -12,10 +12,10 @@ use Rattle.tables.specs.Layout.{mostVertices}
 use Rattle.split.specs.Split.{three, number, Corners, corners}
 use Rattle.split.specs.Row.{root}
 use Rattle.forest.specs.Start.{arranged, moved}
-use Rattle.intake.specs.Cells.{Cells}
+use Rattle.intake.specs.Cells.{Cells, fourOf}
 use Rattle.intake.specs.Causes.{vertex}
 use Rattle.opening.specs.declared.order.Two.{Two}
-use Rattle.opening.specs.declared.order.Four.{Four}
+use Rattle.intake.specs.declared.grid.Four.{Four}
 use Rattle.opening.specs.Order.{lower, upper, sorted, given, rootOf}
 use Rattle.opening.specs.Scratch.{Plain}
 use Rattle.opening.specs.Sorting.{four, inOrder, Low}
@@ -76,15 +76,16 @@ module _ (N : ℕ) (f : ℕ → ℕ) (w : Corners ℕ) where
   arranged-kept e = rw (ne-eqb (f (w .v3)) N e)
 
 -- an element as it is read
-module _ (E : Cells) (k : ℕ) {a b c d : ℕ} (p : a ≡ vertex E k 0) (q : b ≡ vertex E k 1) (r : c ≡ vertex E k 2) (s : d ≡ vertex E k 3) where
-  pub read-low : {vertices : ℕ} → Plain vertices E → k < E .count → Low (record { a = a; b = b; c = c; d = d })
-  read-low x h = record {
+module _ (E : Cells) (k : ℕ) {w : Four} (e : w ≡ fourOf E k) where
+  pub read-low : {vertices : ℕ} → Plain vertices E → k < E .count → Low w
+  unfolding fourOf
+  read-low x h = rw e (record {
     a = omega (arith, x .there k 0 h (omega arith), x .most);
     b = omega (arith, x .there k 1 h (omega arith), x .most);
     c = omega (arith, x .there k 2 h (omega arith), x .most);
     d = omega (arith, x .there k 3 h (omega arith), x .most);
-  }
+  })
 
-  pub root-is : (N : ℕ) (f : ℕ → ℕ) (v w : Four) → four v ≡ sorted f (corners a b c d) → four w ≡ arranged three N f (four v) → root (number three) k (four w) ≡ rootOf N f E k
-  unfolding rootOf
-  root-is N f v w e g = ap (root (number three) k) (g ∙ rw (e, p, q, r, s))
+  pub root-is : (N : ℕ) (f : ℕ → ℕ) (u v : Four) → four u ≡ sorted f (four w) → four v ≡ arranged three N f (four u) → root (number three) k (four v) ≡ rootOf N f E k
+  unfolding rootOf fourOf
+  root-is N f u v p q = ap (root (number three) k) (q ∙ rw (p, e))

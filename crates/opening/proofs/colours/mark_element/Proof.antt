@@ -1,52 +1,53 @@
--- `opening::colours::mark_element` meets its contract: its four vertices are there. Assumes nothing.
 use borrow.Author.Needs.{needs}
-use Rattle.opening.specs.Scratch.{markedAll}
-use Rattle.opening.proofs.laws.Marks.{vertex-few}
+use Rattle.opening.proofs.laws.Marks.{few-first, few-second, few-third, few-last, marked-four}
 use Rattle.opening.proofs.colours.mark_element.Statement.{statement}
 use Rattle.opening.proofs.colours.mark_element.Tie as tie
 
-vertex-at-requires : tie.Need-vertex-at-requires
-vertex-at-requires c κs = search needs
+corners-requires : tie.Need-corners-requires
+corners-requires c κs = search needs
+
+wide-requires : tie.Need-wide-requires
+wide-requires c κs = search needs
 
 mark-requires : tie.Need-mark-requires
-mark-requires c κs = search (vertex-few, needs)
+mark-requires c κs = (search needs, search (few-first, needs))
 
-vertex-at-requires-2 : tie.Need-vertex-at-requires-2
-vertex-at-requires-2 c κs = search needs
+wide-requires-2 : tie.Need-wide-requires-2
+wide-requires-2 c κs = search needs
 
 mark-requires-2 : tie.Need-mark-requires-2
-mark-requires-2 c κs = search (vertex-few, needs)
+mark-requires-2 c κs = (search needs, search (few-second, needs))
 
-vertex-at-requires-3 : tie.Need-vertex-at-requires-3
-vertex-at-requires-3 c κs = search needs
+wide-requires-3 : tie.Need-wide-requires-3
+wide-requires-3 c κs = search needs
 
 mark-requires-3 : tie.Need-mark-requires-3
-mark-requires-3 c κs = search (vertex-few, needs)
+mark-requires-3 c κs = (search needs, search (few-third, needs))
 
-vertex-at-requires-4 : tie.Need-vertex-at-requires-4
-vertex-at-requires-4 c κs = search needs
+wide-requires-4 : tie.Need-wide-requires-4
+wide-requires-4 c κs = search needs
 
 mark-requires-4 : tie.Need-mark-requires-4
-mark-requires-4 c κs = search (vertex-few, needs)
+mark-requires-4 c κs = (search needs, search (few-last, needs))
 
 same-length : tie.Need-same-length
 same-length c = search needs
 
 returns : tie.Need-returns
-unfolding markedAll
-returns c = cc
+returns c = search (marked-four, needs) depth 12
 
 pub mark-element-spec : {M : Type 1} → statement M
 mark-element-spec =
     tie.close
     (tie.spec
-    vertex-at-requires
+    corners-requires
+    wide-requires
     mark-requires
-    vertex-at-requires-2
+    wide-requires-2
     mark-requires-2
-    vertex-at-requires-3
+    wide-requires-3
     mark-requires-3
-    vertex-at-requires-4
+    wide-requires-4
     mark-requires-4
     same-length
     returns)

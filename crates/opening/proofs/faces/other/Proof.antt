@@ -1,5 +1,5 @@
-use Rattle.opening.proofs.laws.Faces.{other-chosen}
 use borrow.Author.Needs.{needs}
+use Rattle.opening.proofs.laws.Faces.{other-chosen}
 use Rattle.opening.proofs.faces.other.Statement.{statement}
 use Rattle.opening.proofs.faces.other.Tie as tie
 

@@ -4,34 +4,32 @@ use Prim.Native.Nat.{_≤_, _-_, _+_, _*_}
 use lib.ListN.{length}
 use Rattle.intake.specs.Cells.{cells}
 use Rattle.opening.specs.Scratch.{Filled}
-use Rattle.opening.proofs.laws.Indexing.{filling-start, filling-next, filling-end}
+use Rattle.opening.proofs.laws.Indexing.{filling-start, filling-end}
+use Rattle.opening.proofs.laws.Faces.{place-vertex}
 use borrow.Author.Needs.{needs}
 use Rattle.opening.proofs.index.fill.Statement.{statement}
 use Rattle.opening.proofs.index.fill.Tie as tie
 
 abbrev Inv-loop : tie.InvT-loop
-Inv-loop elements grid vertices index₀ uses₀ k q₀ index uses q = (q ≤ 4) × (Filled (cells elements grid) (4 * k + q) index × ((length index ≡ length index₀) × (length uses ≡ length uses₀)))
+Inv-loop elements grid vertices index₀ uses₀ k w q₀ index uses q = (q ≤ 4) × (Filled (cells elements grid) (4 * k + q) index × ((length index ≡ length index₀) × (length uses ≡ length uses₀)))
 
 abbrev μ-loop : tie.MeasureT-loop
-μ-loop elements grid vertices index₀ uses₀ k q₀ index uses q = 4 - q
+μ-loop elements grid vertices index₀ uses₀ k w q₀ index uses q = 4 - q
 
 loop-holds : tie.Need-loop-holds Inv-loop μ-loop
 loop-holds c = (search needs, (search (filling-start, needs), (refl, refl)))
 
-vertex-at-requires : tie.Need-vertex-at-requires Inv-loop μ-loop
-vertex-at-requires c κs = search needs
+corners-requires : tie.Need-corners-requires Inv-loop μ-loop
+corners-requires c κs = search needs
 
-mul-push : tie.Need-mul-push Inv-loop μ-loop
-mul-push c = search needs
+place-requires : tie.Need-place-requires Inv-loop μ-loop
+place-requires c κs = search needs
 
-add-push : tie.Need-add-push Inv-loop μ-loop
-add-push c = search needs
+wide-requires : tie.Need-wide-requires Inv-loop μ-loop
+wide-requires c κs = search needs
 
-push-requires : tie.Need-push-requires Inv-loop μ-loop
-push-requires c κs = search needs
-
-bump-requires : tie.Need-bump-requires Inv-loop μ-loop
-bump-requires c κs = search needs
+put-requires : tie.Need-put-requires Inv-loop μ-loop
+put-requires c κs = (search needs, (search needs, (search needs, (search needs, search (place-vertex, needs)))))
 
 add-q : tie.Need-add-q Inv-loop μ-loop
 add-q c = search needs
@@ -40,7 +38,7 @@ loop-less : tie.Need-loop-less Inv-loop μ-loop
 loop-less c = search needs
 
 loop-again : tie.Need-loop-again Inv-loop μ-loop
-loop-again c = (search needs, (search (filling-next, needs), (search needs, search needs)))
+loop-again c = (search needs, (search needs, (search needs, search needs)))
 
 same-length : tie.Need-same-length Inv-loop μ-loop
 same-length c = search needs
@@ -57,12 +55,11 @@ fill-spec =
     (tie.spec
     Inv-loop
     μ-loop
+    corners-requires
     loop-holds
-    vertex-at-requires
-    mul-push
-    add-push
-    push-requires
-    bump-requires
+    place-requires
+    wide-requires
+    put-requires
     add-q
     loop-less
     loop-again
