@@ -1,9 +1,9 @@
 -- The tables while closure works on them, and what its parts do to them. Nothing here is promised to callers.
 use mathlib.Core.Path.{_≡_}
-use mathlib.Core.Bool.{_&&_, cond}
+use mathlib.Core.Bool.{Bool, _&&_, cond}
 use mathlib.Core.List.{List}
 use Prim.Native.Nat.{ℕ, _+_, _-_, _*_, _/_, _%_, _≤_, _<_, min}
-use lib.Dec.{ltb, leb}
+use lib.Dec.{eqb, ltb}
 use lib.ListN.{length, getD, set}
 use Rattle.split.specs.declared.row.Row.{Row}
 use Rattle.split.specs.declared.row.Ends.{Ends}
@@ -15,7 +15,7 @@ use Rattle.tables.specs.Mesh.{upTo}
 use Rattle.run.specs.Skeleton.{Skeleton}
 use Rattle.split.specs.Split.{at, Distinct}
 use Rattle.split.specs.Row.{cornersOf}
-use Rattle.run.specs.Run.{holders, cut, cutAll}
+use Rattle.run.specs.Run.{has, holders, cut, cutAll}
 
 -- ---- the tables as lists
 
@@ -41,27 +41,20 @@ linksAt = mostVertices
 unfoldable pub scratchFor : ℕ → ℕ
 scratchFor w = 2 * mostVertices + 5 * min mostRows (w / rowWidth)
 
--- four corners of row n appended to the index
-unfoldable pub cornersPushed : List ℕ → ℕ → Row → List ℕ
-cornersPushed s n r = pushed (pushed (pushed (pushed s linksAt (4 * n) (r .v0)) linksAt (4 * n + 1) (r .v1)) linksAt (4 * n + 2) (r .v2)) linksAt (4 * n + 3) (r .v3)
-
 abbrev pub bumped : ℕ → ℕ
 bumped u = cond (ltb u 4294967295) (u + 1) u
 
--- the place of vertex v among the last numbers of a table of n, or n where there is no such place
-unfoldable pub useAt : ℕ → ℕ → ℕ
-useAt n v = cond (ltb v linksAt && leb linksAt n) (n - linksAt + v) n
-
--- one use of vertex v more. Nothing hangs on these counts but which end of an edge is walked
+-- one use of vertex v more, counted among the last numbers. Nothing hangs on these counts but which end of an edge is walked
 unfoldable pub counted : List ℕ → ℕ → List ℕ
-counted s v = set s (useAt (length s) v) (bumped (getD s (useAt (length s) v) 0))
+counted s v = set s (length s - linksAt + v) (bumped (getD s (length s - linksAt + v) 0))
 
-unfoldable pub rowCounted : List ℕ → Row → List ℕ
-rowCounted s r = counted (counted (counted (counted s (r .v0)) (r .v1)) (r .v2)) (r .v3)
+-- slot i with its vertex v in the index, and v counted
+unfoldable pub entered : List ℕ → ℕ → ℕ → List ℕ
+entered s i v = counted (pushed s linksAt i v) v
 
--- row n in the index, and its corners counted
+-- the four corners of row n entered
 unfoldable pub rowPushed : List ℕ → ℕ → Row → List ℕ
-rowPushed s n r = rowCounted (cornersPushed s n r) r
+rowPushed s n r = entered (entered (entered (entered s (4 * n) (r .v0)) (4 * n + 1) (r .v1)) (4 * n + 2) (r .v2)) (4 * n + 3) (r .v3)
 
 -- the last k numbers before the uses: a patch, in ascending row order
 abbrev pub patchIn : List ℕ → ℕ → List ℕ
@@ -113,6 +106,18 @@ pub record Parted (w s : List ℕ) (n k v : ℕ) (w' s' : List ℕ) : Type 0 whe
 pub data EndOf (e : Ends) (a : ℕ) : Type 0 where
   small : a ≡ e .small → EndOf e a
   large : a ≡ e .large → EndOf e a
+
+-- the end of e that its end a is not
+unfoldable pub otherEnd : Ends → ℕ → ℕ
+otherEnd e a = cond (eqb (e .small) a) (e .large) (e .small)
+
+-- 1 for the same vertex, and else 0
+unfoldable pub once : ℕ → ℕ → ℕ
+once u v = cond (eqb u v) 1 0
+
+-- the row is a leaf holding v. A row that holds one end of an edge is in its patch exactly if it is a leaf with the other
+unfoldable pub leafWith : ℕ → Row → Bool
+leafWith v r = eqb (r .child) 0 && has r v
 
 -- the leaves holding both ends of e can be looked for among those that hold its end a
 pub record Gatherable (w s : List ℕ) (n : ℕ) (e : Ends) (a : ℕ) : Type 0 where

@@ -4,23 +4,13 @@ use split::row::Ends;
 use split::row::Row;
 use tables::layout::MOST_VERTICES;
 ghost use mathlib.Core.Path.{_≡_};
-ghost use Prim.Native.Nat.{_<_};
+ghost use Prim.Native.Nat.{_+_, _*_, _<_};
+ghost use lib.ListN.{length};
+ghost use Rattle.chain.specs.Chain.{pushed};
 ghost use Rattle.tables.specs.Layout.{mostRows};
-ghost use Rattle.closure.specs.State.{cornersPushed, bumped, useAt, counted, rowCounted, rowPushed, EndOf};
+ghost use Rattle.closure.specs.State.{linksAt, bumped, counted, entered, rowPushed, EndOf};
 
 pub const LINKS: usize = MOST_VERTICES;
-
-// Appends the four corners of row n.
-fn push_corners(scratch: &mut [u32], n: usize, r: Row)
-    requires { ⌜ n < mostRows ⌝ }
-    ensures { λ _. ⌜ now (scratch .exit) ≡ cornersPushed (now (scratch .entry)) n r ⌝ }
-{
-    let s = 4 * n;
-    chain::push(scratch, LINKS, s, wide(r.v0));
-    chain::push(scratch, LINKS, s + 1, wide(r.v1));
-    chain::push(scratch, LINKS, s + 2, wide(r.v2));
-    chain::push(scratch, LINKS, s + 3, wide(r.v3));
-}
 
 fn bump(u: u32) -> u32
     ensures { λ r. ⌜ r ≡ bumped u ⌝ }
@@ -28,54 +18,65 @@ fn bump(u: u32) -> u32
     if u < 4294967295 { u + 1 } else { u }
 }
 
-// Where the uses of vertex v are counted in a table of n numbers, or n where it has no such place.
-fn use_at(n: usize, v: u32) -> usize
-    ensures { λ r. ⌜ r ≡ useAt n v ⌝ }
+// Slot i, with the vertex k, in the index.
+fn link(scratch: &mut [u32], i: usize, k: usize)
+    requires { ⌜ k < linksAt ⌝ }
+    requires { ⌜ i < 4 * mostRows ⌝ }
+    requires { ⌜ linksAt + i < length (now scratch) ⌝ }
+    ensures { λ _. ⌜ now (scratch .exit) ≡ pushed (now (scratch .entry)) linksAt i k ⌝ }
+{
+    scratch[LINKS + i] = scratch[k];
+    scratch[k] = (i + 1) as u32;
+}
+
+// One use of the vertex k more.
+fn count(scratch: &mut [u32], k: usize)
+    requires { ⌜ k < linksAt ⌝ }
+    requires { ⌜ linksAt < length (now scratch) ⌝ }
+    ensures { λ _. ⌜ now (scratch .exit) ≡ counted (now (scratch .entry)) k ⌝ }
+{
+    let at = scratch.len() - LINKS + k;
+    scratch[at] = bump(scratch[at]);
+}
+
+// Slot i with its vertex v in the index, and one use of v more. A number that no vertex has changes nothing.
+fn enter(scratch: &mut [u32], i: usize, v: u32)
+    requires { ⌜ i < 4 * mostRows ⌝ }
+    requires { ⌜ 2 * linksAt + i < length (now scratch) ⌝ }
+    ensures { λ _. ⌜ now (scratch .exit) ≡ entered (now (scratch .entry)) i v ⌝ }
 {
     let k = wide(v);
     if LINKS <= k {
-        return n;
+        return;
     }
-    if n < LINKS {
-        return n;
-    }
-    n - LINKS + k
-}
-
-// One use of vertex v more.
-fn count(scratch: &mut [u32], v: u32)
-    ensures { λ _. ⌜ now (scratch .exit) ≡ counted (now (scratch .entry)) v ⌝ }
-{
-    let at = use_at(scratch.len(), v);
-    if at < scratch.len() {
-        scratch[at] = bump(scratch[at]);
-    }
-}
-
-fn count_row(scratch: &mut [u32], r: Row)
-    ensures { λ _. ⌜ now (scratch .exit) ≡ rowCounted (now (scratch .entry)) r ⌝ }
-{
-    count(scratch, r.v0);
-    count(scratch, r.v1);
-    count(scratch, r.v2);
-    count(scratch, r.v3);
+    link(scratch, i, k);
+    count(scratch, k);
 }
 
 // Row n in the index, and its corners counted.
 pub fn index_row(scratch: &mut [u32], n: usize, r: Row)
     requires { ⌜ n < mostRows ⌝ }
+    requires { ⌜ 2 * linksAt + 4 * n + 3 < length (now scratch) ⌝ }
     ensures { λ _. ⌜ now (scratch .exit) ≡ rowPushed (now (scratch .entry)) n r ⌝ }
 {
-    push_corners(scratch, n, r);
-    count_row(scratch, r);
+    let s = 4 * n;
+    enter(scratch, s, r.v0);
+    enter(scratch, s + 1, r.v1);
+    enter(scratch, s + 2, r.v2);
+    enter(scratch, s + 3, r.v3);
 }
 
+// How often v was counted, or 0 where no count of it has a place.
 fn uses(scratch: &[u32], v: u32) -> u32 {
-    let at = use_at(scratch.len(), v);
-    if at < scratch.len() {
-        return scratch[at];
+    let k = wide(v);
+    if scratch.len() < LINKS {
+        return 0;
     }
-    0
+    let from = scratch.len() - LINKS;
+    if LINKS <= k {
+        return 0;
+    }
+    scratch[from + k]
 }
 
 // The end of e that is in fewer rows. Any of the two is right: nothing is promised of the counts.

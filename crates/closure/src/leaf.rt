@@ -4,13 +4,15 @@ use chain::wide;
 use split::row::Row;
 use split::row::with_child;
 ghost use mathlib.Core.Path.{_≡_};
-ghost use Prim.Native.Nat.{_+_, _<_};
+ghost use Prim.Native.Nat.{_+_, _*_, _<_};
+ghost use lib.ListN.{length};
 ghost use Rattle.tables.specs.Layout.{rowAt, putRow, mostRows};
 ghost use Rattle.split.specs.Row.{withChild, firstOf, secondOf};
-ghost use Rattle.closure.specs.State.{rowPushed, Splittable, Halves};
+ghost use Rattle.closure.specs.State.{linksAt, rowPushed, Splittable, Halves};
 
 fn append(rows: &mut [u32], scratch: &mut [u32], n: usize, r: Row)
     requires { ⌜ n < mostRows ⌝ }
+    requires { ⌜ 2 * linksAt + 4 * n + 3 < length (now scratch) ⌝ }
     ensures { λ _. ⌜ now (rows .exit) ≡ putRow (now (rows .entry)) n r ⌝ }
     ensures { λ _. ⌜ now (scratch .exit) ≡ rowPushed (now (scratch .entry)) n r ⌝ }
 {
@@ -32,6 +34,7 @@ fn adopt(rows: &mut [u32], leaf: u32, n: usize) -> Row
 // Appends the two children of `held`, the row `leaf`, at the vertex v.
 fn bear(rows: &mut [u32], scratch: &mut [u32], n: usize, leaf: u32, held: Row, v: u32)
     requires { ⌜ n + 1 < mostRows ⌝ }
+    requires { ⌜ 2 * linksAt + 4 * (n + 1) + 3 < length (now scratch) ⌝ }
     ensures { λ _. ⌜ now (rows .exit) ≡ putRow (putRow (now (rows .entry)) n (firstOf held leaf v)) (n + 1) (secondOf held leaf v) ⌝ }
     ensures { λ _. ⌜ now (scratch .exit) ≡ rowPushed (rowPushed (now (scratch .entry)) n (firstOf held leaf v)) (n + 1) (secondOf held leaf v) ⌝ }
 {

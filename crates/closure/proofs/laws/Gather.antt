@@ -18,11 +18,12 @@ use Rattle.tables.specs.Layout.{noRow, rowAt, mostRows}
 use Rattle.tables.specs.Mesh.{upTo}
 use Rattle.tables.proofs.laws.View.{length-up-to, up-to-at}
 use Rattle.opening.proofs.laws.Indexing.{indexed-kept}
-use Rattle.closure.specs.State.{corner, rowsOf, linksAt, patchIn, EndOf, small, large, Gatherable, Gathers}
+use Rattle.closure.specs.State.{corner, rowsOf, linksAt, patchIn, EndOf, small, large, otherEnd, leafWith, Gatherable, Gathers}
 use Rattle.run.specs.Skeleton.{rowIn}
 use Rattle.run.specs.Run.{holding, holdersFrom}
-use Rattle.run.proofs.laws.Holders.{Holding, holding-is, from-hit, from-miss}
+use Rattle.run.proofs.laws.Holders.{Holding, holding-is, holds-has, from-hit, from-miss}
 use Rattle.closure.proofs.laws.Index.{corner-row, state-holds}
+use Rattle.closure.proofs.laws.Tests.{holding-other}
 
 -- ---- the list in the scratch table
 
@@ -181,7 +182,17 @@ module _ {w s₀ : List ℕ} {n : ℕ} {e : Ends} {a : ℕ} (g : Gatherable w s�
     slot : 4 * q + (i - 1) % 4 ≡ i - 1
     slot = omega arith
 
-    module _ {s' : List ℕ} {k' next : ℕ} (ek : k' ≡ cond (holding e (rowAt w q)) (k + 1) k) (es : s' ≡ cond (holding e (rowAt w q)) (set s (length s - (linksAt + (k + 1))) q) s) (en : next ≡ getD s' (linksAt + (i - 1)) 0) where
+    -- the row of the slot holds a, so what was asked of it is whether it is in the patch
+    same-row : {b : ℕ} → b ≡ otherEnd e a → leafWith b (rowAt w q) ≡ holding e (rowAt w q)
+    same-row f = rw f (holding-other (rowAt w q) (g .end) (holds-has (rowAt w q) a (record { place = (i - 1) % 4; inside = omega arith; is = x .here more })))
+
+    module _ {b : ℕ} (eb : b ≡ otherEnd e a) {s' : List ℕ} {k' next : ℕ} (kept : k' ≡ cond (leafWith b (rowAt w q)) (k + 1) k) (stored : s' ≡ cond (leafWith b (rowAt w q)) (set s (length s - (linksAt + (k + 1))) q) s) (en : next ≡ getD s' (linksAt + (i - 1)) 0) where
+      ek : k' ≡ cond (holding e (rowAt w q)) (k + 1) k
+      ek = kept ∙ ap (λ (t : Bool). cond t (k + 1) k) (same-row eb)
+
+      es : s' ≡ cond (holding e (rowAt w q)) (set s (length s - (linksAt + (k + 1))) q) s
+      es = stored ∙ ap (λ (t : Bool). cond t (set s (length s - (linksAt + (k + 1))) q) s) (same-row eb)
+
       link : next ≡ latest (corner w) a (4 * q)
       link =
           en ∙ rw es (next-link (indexed (holding e (rowAt w q))) (omega (arith, x .below)) (x .here more))

@@ -13,15 +13,14 @@ use Rattle.split.proofs.laws.Places.{le-or-lt}
 use Rattle.split.proofs.laws.Tags.{tag-range}
 use Rattle.split.proofs.laws.Children.{from-parent}
 use Rattle.split.proofs.laws.Rows.{vertices-step}
-use Rattle.chain.specs.Chain.{Indexed, pushed}
-use Rattle.chain.proofs.laws.Pushed.{pushed-length, pushed-beyond}
-use Rattle.chain.proofs.laws.Index.{indexed-push-one, indexed-same}
+use Rattle.chain.specs.Chain.{Indexed}
+use Rattle.chain.proofs.laws.Index.{indexed-same}
 use Rattle.tables.specs.Layout.{rowWidth, noRow, rowAt, putRow, mostRows}
 use Rattle.tables.proofs.laws.Rows.{length-put-row, row-put}
 use Rattle.tables.proofs.laws.View.{length-up-to, up-to-at}
-use Rattle.closure.specs.State.{corner, rowsOf, linksAt, scratchFor, cornersPushed, rowPushed, State, Splittable, Halves}
+use Rattle.closure.specs.State.{corner, rowsOf, linksAt, scratchFor, rowPushed, State, Splittable, Halves}
 use Rattle.run.specs.Run.{cut}
-use Rattle.closure.proofs.laws.Uses.{row-counted-length, row-counted-before, row-counted-indexed}
+use Rattle.closure.proofs.laws.Uses.{rowPushed-length, rowPushed-between, rowPushed-indexed}
 use Rattle.closure.proofs.laws.Rows.{row-other, rows-next, rows-set}
 
 -- the vertices of the row are below n
@@ -52,27 +51,6 @@ state-under {w} x r h p l = rw (← corner-row w r p l) (x .low (4 * r + p) (ome
 -- ---- one row appended
 
 module _ (w s : List ℕ) (n : ℕ) (r : Row) where
-  pub corners-length : length (cornersPushed s n r) ≡ length s
-  unfolding cornersPushed
-  corners-length = pushed-length _ _ _ _ ∙ pushed-length _ _ _ _ ∙ pushed-length _ _ _ _ ∙ pushed-length _ _ _ _
-
-  pub rowPushed-length : length (rowPushed s n r) ≡ length s
-  unfolding rowPushed
-  rowPushed-length = row-counted-length (cornersPushed s n r) r ∙ corners-length
-
-  corners-beyond : (j : ℕ) → linksAt + 4 * (n + 1) ≤ j → getD (cornersPushed s n r) j 0 ≡ getD s j 0
-  unfolding cornersPushed
-  corners-beyond j l =
-      pushed-beyond _ linksAt (4 * n + 3) (r .v3) j (omega arith)
-      ∙ pushed-beyond _ linksAt (4 * n + 2) (r .v2) j (omega arith)
-      ∙ pushed-beyond _ linksAt (4 * n + 1) (r .v1) j (omega arith)
-      ∙ pushed-beyond s linksAt (4 * n) (r .v0) j (omega arith)
-
-  -- what stands between links and uses
-  rowPushed-between : {m : ℕ} → length s ≡ m → (j : ℕ) → linksAt + 4 * (n + 1) ≤ j → linksAt + j < m → getD (rowPushed s n r) j 0 ≡ getD s j 0
-  unfolding rowPushed
-  rowPushed-between e j l h = row-counted-before (cornersPushed s n r) r j (rw (corners-length, e) h) ∙ corners-beyond j l
-
   module _ (x : State w s n) (room : n < length w / rowWidth) (few : n < mostRows) (under : Under linksAt r) where
     abbrev w' : List ℕ
     w' = putRow w n r
@@ -86,27 +64,12 @@ module _ (w s : List ℕ) (n : ℕ) (r : Row) where
     holds : 40000 + 5 * (n + 1) ≤ length s
     holds = scratch-holds (length w) (length s) (n + 1) (x .size) (omega arith) (omega arith)
 
-    -- one slot of the row more
-    slot-pushed : (k next q : ℕ) (l : List ℕ) → q ≤ 3 → k ≡ 4 * n + q → next ≡ k + 1 → length l ≡ length s → Indexed (corner w') k linksAt l → Indexed (corner w') next linksAt (pushed l linksAt k (at (cornersOf r) q))
-    slot-pushed k next q l h e f size i =
-        let key : corner w' k ≡ at (cornersOf r) q = ap (corner w') e ∙ corner-new q h in
-        rw (f, ← key) (indexed-push-one i (rw key (under q h)) (omega (arith, holds)) (omega arith))
-
-    corners-indexed : Indexed (corner w') (4 * (n + 1)) linksAt (cornersPushed s n r)
-    unfolding cornersPushed
-    corners-indexed =
-        slot-pushed (4 * n + 3) (4 * (n + 1)) 3 _ (omega arith) refl (omega arith) (pushed-length _ _ _ _ ∙ pushed-length _ _ _ _ ∙ pushed-length _ _ _ _)
-        (slot-pushed (4 * n + 2) (4 * n + 3) 2 _ (omega arith) refl (omega arith) (pushed-length _ _ _ _ ∙ pushed-length _ _ _ _)
-        (slot-pushed (4 * n + 1) (4 * n + 2) 1 _ (omega arith) refl (omega arith) (pushed-length _ _ _ _)
-        (slot-pushed (4 * n) (4 * n + 1) 0 s (omega arith) (omega arith) (omega arith) refl (indexed-same (λ k h. sym (corner-old k h)) (x .index)))))
-
     rows-indexed : Indexed (corner w') (4 * (n + 1)) linksAt (rowPushed s n r)
-    unfolding rowPushed
-    rows-indexed = row-counted-indexed (cornersPushed s n r) r (rw corners-length (omega (arith, holds))) corners-indexed
+    rows-indexed = rowPushed-indexed s n r corner-new under (omega (arith, holds)) few (indexed-same (λ k h. sym (corner-old k h)) (x .index))
 
     pub state-appended : State w' (rowPushed s n r) (n + 1)
     state-appended = record {
-      size = rw (length-put-row w n r, rowPushed-length) (x .size);
+      size = rw (length-put-row w n r, rowPushed-length s n r) (x .size);
       index = rows-indexed;
       few = omega arith;
       fits = rw (length-put-row w n r) (omega arith);
@@ -187,6 +150,10 @@ module _ {w s : List ℕ} {n leaf v : ℕ} (z : Splittable w s n leaf v) where
   second-state : State w3 (rowPushed (rowPushed s n (firstOf r leaf v)) (n + 1) (secondOf r leaf v)) (n + 1 + 1)
   second-state = state-appended w2 (rowPushed s n (firstOf r leaf v)) (n + 1) (secondOf r leaf v) first-state room-two (omega (arith, z .few)) (child-under right r leaf v linksAt (state-under x leaf h) (z .low))
 
+  -- both children have their places
+  pub halves-room : 2 * linksAt + 4 * (n + 1) + 3 < length s
+  halves-room = omega (arith, scratch-holds (length w) (length s) (n + 2) (x .size) (z .few) (z .room))
+
   rows-cut : rowsOf w3 (n + 1 + 1) ≡ cut v (rowsOf w n) leaf
   unfolding cut
   rows-cut =
@@ -195,7 +162,7 @@ module _ {w s : List ℕ} {n leaf v : ℕ} (z : Splittable w s n leaf v) where
       (append-assoc (set (rowsOf w n) leaf (withChild r n)) (firstOf r leaf v ∷ []) (secondOf r leaf v ∷ []))
 
   first-length : length (rowPushed s n (firstOf r leaf v)) ≡ length s
-  first-length = rowPushed-length w s n (firstOf r leaf v)
+  first-length = rowPushed-length s n (firstOf r leaf v)
 
   pub halves : Halves w s n leaf v w3 (rowPushed (rowPushed s n (firstOf r leaf v)) (n + 1) (secondOf r leaf v))
   halves =
@@ -204,12 +171,12 @@ module _ {w s : List ℕ} {n leaf v : ℕ} (z : Splittable w s n leaf v) where
         size = length-put-row w2 (n + 1) (secondOf r leaf v) ∙ length-two;
         state = rw two at second-state;
         rows = rw two at rows-cut;
-        scratch-size = rowPushed-length w (rowPushed s n (firstOf r leaf v)) (n + 1) (secondOf r leaf v) ∙ first-length;
-        patch = λ j l h. rowPushed-between w (rowPushed s n (firstOf r leaf v)) (n + 1) (secondOf r leaf v) first-length j (omega arith) h ∙ rowPushed-between w s n (firstOf r leaf v) refl j (omega arith) h;
+        scratch-size = rowPushed-length (rowPushed s n (firstOf r leaf v)) (n + 1) (secondOf r leaf v) ∙ first-length;
+        patch = λ j l h. rowPushed-between (rowPushed s n (firstOf r leaf v)) (n + 1) (secondOf r leaf v) first-length j (omega arith) h ∙ rowPushed-between s n (firstOf r leaf v) refl j (omega arith) h;
       }
 
   -- the same of tables that are known by what was written to them
   pub halved : {held : Row} {a w' s' : List ℕ} → held ≡ r → a ≡ w1 → w' ≡ putRow (putRow a n (firstOf held leaf v)) (n + 1) (secondOf held leaf v) → s' ≡ rowPushed (rowPushed s n (firstOf held leaf v)) (n + 1) (secondOf held leaf v) → Halves w s n leaf v w' s'
   halved b d e f = rw (e, f, b, d) halves
 
-pub ruleset halving = (halved)
+pub ruleset halving = (halves-room, halved)

@@ -27,6 +27,9 @@ loop-holds c = search (walking, needs)
 sub-s : tie.Need-sub-s Inv-loop μ-loop
 sub-s c = search (walking, needs)
 
+other-requires : tie.Need-other-requires Inv-loop μ-loop
+other-requires c κs = search needs
+
 keep-requires : tie.Need-keep-requires Inv-loop μ-loop
 keep-requires c κs = search (walking, needs)
 
@@ -66,6 +69,7 @@ gather-spec =
     wide-requires-2
     loop-holds
     sub-s
+    other-requires
     keep-requires
     add-wide
     mul-wide-2

@@ -3,8 +3,8 @@ use borrow.Author.Needs.{needs}
 use Rattle.closure.proofs.gather.keep.Statement.{statement}
 use Rattle.closure.proofs.gather.keep.Tie as tie
 
-holding-requires : tie.Need-holding-requires
-holding-requires c κs = search needs
+leaf-with-requires : tie.Need-leaf-with-requires
+leaf-with-requires c κs = search needs
 
 returns : tie.Need-returns
 returns c = (search branches, search branches)
@@ -40,7 +40,7 @@ pub keep-spec : {M : Type 1} → statement M
 keep-spec =
     tie.close
     (tie.spec
-    holding-requires
+    leaf-with-requires
     returns
     add-at
     add-at-2

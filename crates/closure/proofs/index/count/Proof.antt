@@ -1,10 +1,13 @@
 use borrow.Author.Needs.{needs}
-use Rattle.closure.proofs.laws.Uses.{counts}
+use Rattle.closure.proofs.laws.Uses.{count-one}
 use Rattle.closure.proofs.index.count.Statement.{statement}
 use Rattle.closure.proofs.index.count.Tie as tie
 
-use-at-requires : tie.Need-use-at-requires
-use-at-requires c κs = search needs
+sub-at : tie.Need-sub-at
+sub-at c = search needs
+
+add-at : tie.Need-add-at
+add-at c = search needs
 
 mul-bump : tie.Need-mul-bump
 mul-bump c = search needs
@@ -25,21 +28,18 @@ same-length : tie.Need-same-length
 same-length c = search needs
 
 returns : tie.Need-returns
-returns c = search (counts, needs)
-
-returns-2 : tie.Need-returns-2
-returns-2 c = search (counts, needs)
+returns c = search (count-one, needs)
 
 pub count-spec : {M : Type 1} → statement M
 count-spec =
     tie.close
     (tie.spec
-    use-at-requires
+    sub-at
+    add-at
     mul-bump
     slice-read-bump
     bump-requires
     mul-scratch
     slice-write-scratch
     same-length
-    returns
-    returns-2)
+    returns)
