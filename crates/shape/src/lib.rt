@@ -11,15 +11,12 @@ use tables::layout::Counts;
 ghost use Rattle.sound.specs.Check.{Decides};
 ghost use Rattle.shape.specs.Shape.{Inside, Half, Shapes};
 
-// Clauses 2, 4 and 5, and that each midpoint was made.
+// Clauses 2, 4 and 5, and that each midpoint was made. That no later row is a root needs no pass of its own: a child's parent is older than it.
 fn half(records: &[u32], rows: &[u32], c: Counts, i: usize, t: usize) -> bool
     requires { ⌜ Inside (now records) (now rows) c ⌝ }
     ensures { λ r. ⌜ Decides (Half (now (records .entry)) (now (rows .entry)) c i t) r ⌝ }
 {
     if !parts::no_initial_from(records, i, c.vertices) {
-        return false;
-    }
-    if !parts::no_root_from(rows, t, c.rows) {
         return false;
     }
     if !used::children_fit(records, rows, c, i, t) {

@@ -60,16 +60,3 @@ pub fn roots(rows: &[u32], n: usize) -> usize
     }
     t
 }
-
-pub fn no_root_from(rows: &[u32], from: usize, n: usize) -> bool
-    ensures { λ r. ⌜ Decides ((k : ℕ) → from ≤ k → k < n → rowAt (now (rows .entry)) k .parent ≡ k → ⊥) r ⌝ }
-{
-    let mut k = from;
-    while k < n {
-        if is_root(rows, k) {
-            return false;
-        }
-        k += 1;
-    }
-    true
-}

@@ -1,20 +1,30 @@
 // Clause 7: no leaf holds both parents of a midpoint. No two of its vertices are a pair of the index.
 use crate::pairs::untaken;
+ghost use mathlib.Core.Path.{_≡_};
 ghost use Prim.Native.Nat.{_-_, min, max};
 ghost use Rattle.chain.specs.Chain.{Indexed};
 ghost use Rattle.sound.specs.Check.{Decides};
 ghost use Rattle.soundness.specs.Check.{Run, Rising, heads, pairAt, Untaken, Whole, AllWhole};
 
-// Whether a and b are the parents of no midpoint, in either order.
+fn lower(a: u32, b: u32) -> u32
+    ensures { λ r. ⌜ r ≡ min a b ⌝ }
+{
+    if a < b { a } else { b }
+}
+
+fn upper(a: u32, b: u32) -> u32
+    ensures { λ r. ⌜ r ≡ max a b ⌝ }
+{
+    if a < b { b } else { a }
+}
+
+// Whether a and b are the parents of no midpoint, in either order. One call, since the walk is a loop and stands in `is_whole` once for each call.
 fn unpaired(records: &[u32], scratch: &[u32], i: usize, n: usize, a: u32, b: u32) -> bool
     requires { ⌜ Run i n ⌝ }
     requires { ⌜ Indexed (pairAt (now records) i) (n - i) heads (now scratch) ⌝ }
     ensures { λ r. ⌜ Decides (Untaken (now (records .entry)) i n (min a b) (max a b)) r ⌝ }
 {
-    if a < b {
-        return untaken(records, scratch, i, n, a, b);
-    }
-    untaken(records, scratch, i, n, b, a)
+    untaken(records, scratch, i, n, lower(a, b), upper(a, b))
 }
 
 // Whether row q, if it is a leaf, holds both parents of no midpoint: six pairs.

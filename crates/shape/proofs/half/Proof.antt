@@ -1,4 +1,5 @@
 use Rattle.sound.proofs.laws.Deciding.{decides-false, decides-same, refused, granted}
+use Rattle.shape.proofs.laws.Family.{children-later}
 use Rattle.shape.proofs.laws.Whole.{inside-rows}
 use borrow.Author.Needs.{needs}
 use Rattle.shape.proofs.half.Statement.{statement}
@@ -10,28 +11,23 @@ no-initial-from-requires c κs = search needs
 returns : tie.Need-returns
 returns c = decides-false (λ h. refused (c .before .no-initial-from .ensures) (c .if1 .taken) (h .midpoints))
 
-no-root-from-requires : tie.Need-no-root-from-requires
-no-root-from-requires c κs = search needs
-
-returns-2 : tie.Need-returns-2
-returns-2 c = decides-false (λ h. refused (c .before .no-root-from .ensures) (c .if2 .taken) (h .later))
-
 children-fit-requires : tie.Need-children-fit-requires
 children-fit-requires c κs = search needs
 
-returns-3 : tie.Need-returns-3
-returns-3 c = decides-false (λ h. refused (c .before .children-fit .ensures) (c .if3 .taken) (h .bred))
+returns-2 : tie.Need-returns-2
+returns-2 c = decides-false (λ h. refused (c .before .children-fit .ensures) (c .if2 .taken) (h .bred))
 
 parents-follow-requires : tie.Need-parents-follow-requires
 parents-follow-requires c κs = search (inside-rows, needs)
 
-returns-4 : tie.Need-returns-4
-returns-4 c =
+returns-3 : tie.Need-returns-3
+returns-3 c =
+    let bred = granted (c .before .before .children-fit .ensures) (c .before .if2 .left) in
     decides-same
     (λ q. record {
-      midpoints = granted (c .before .before .before .before .before .before .no-initial-from .ensures) (c .before .before .before .before .before .if1 .left);
-      later = granted (c .before .before .before .before .no-root-from .ensures) (c .before .before .before .if2 .left);
-      bred = granted (c .before .before .children-fit .ensures) (c .before .if3 .left);
+      midpoints = granted (c .before .before .before .before .no-initial-from .ensures) (c .before .before .before .if1 .left);
+      later = children-later _ _ (c .before .before .before .before .before .before .before .args .c) (bred .children);
+      bred = bred;
       parents = q;
     })
     (λ h. h .parents)
@@ -43,9 +39,7 @@ half-spec =
     (tie.spec
     no-initial-from-requires
     returns
-    no-root-from-requires
-    returns-2
     children-fit-requires
-    returns-3
+    returns-2
     parents-follow-requires
-    returns-4)
+    returns-3)

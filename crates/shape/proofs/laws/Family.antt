@@ -20,7 +20,7 @@ use Rattle.tables.specs.Mesh.{Mesh, meshOf}
 use Rattle.tables.proofs.laws.View.{length-up-to, up-to-at}
 use Rattle.sound.specs.Sound.{vertices, rows, recordOf, rowOf, childless, place, Records, Child, Parent}
 use Rattle.sound.specs.Check.{Decides, bare}
-use Rattle.shape.specs.Shape.{Sided}
+use Rattle.shape.specs.Shape.{Sided, Children}
 use Rattle.sound.proofs.laws.Deciding.{decides-same, decides-equal}
 pub use Rattle.sound.proofs.laws.Deciding.{decides-true, decides-false, granted, refused}
 
@@ -234,3 +234,9 @@ module _ (R W : List ℕ) (c : Counts) where
 
     pub passes-not : (held .child ≡ 0 → ⊥) → (Parent (bare R W c) t q → ⊥) → Passes (bare R W c) t q → ⊥
     passes-not split none p = none (p (λ e. split (rw (row-is l h) at e)))
+
+-- a later row is no root: its parent is older than it
+pub children-later : (R W : List ℕ) (c : Counts) {i t : ℕ} → Children (bare R W c) i t → (k : ℕ) → t ≤ k → k < c .rows → rowAt W k .parent ≡ k → ⊥
+children-later R W c all k from l e =
+    let older : rowAt W k .parent < k = rw (mesh-row R W c k l) at (all k from (rw (mesh-rows R W c) l) .older) in
+    omega (arith, older, e)

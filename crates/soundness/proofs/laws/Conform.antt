@@ -18,19 +18,6 @@ use Rattle.sound.proofs.laws.Deciding.{decides-true, decides-false, decides-sam
 abbrev pub Unpaired : List ℕ → ℕ → ℕ → ℕ → ℕ → Type 0
 Unpaired r i n x y = Untaken r i n (min x y) (max x y)
 
-module _ {r : List ℕ} {i n x y : ℕ} {b : Bool} where
-  pub sorted : x < y → Decides (Untaken r i n x y) b → Decides (Unpaired r i n x y) b
-  sorted l d =
-      let small : min x y ≡ x = omega arith in
-      let large : max x y ≡ y = omega arith in
-      rw (small, large) d
-
-  pub turned : y ≤ x → Decides (Untaken r i n y x) b → Decides (Unpaired r i n x y) b
-  turned l d =
-      let small : min x y ≡ y = omega arith in
-      let large : max x y ≡ x = omega arith in
-      rw (small, large) d
-
 module _ {r : List ℕ} {i n : ℕ} (rising : Rising r i n) where
   -- a midpoint whose parents are x and y, in the order of their places or against it
   met : {x y : ℕ} → Unpaired r i n x y → (v : ℕ) → i ≤ v → v < n → recordAt r v .first ≡ x → recordAt r v .second ≡ y → ⊥
