@@ -1,21 +1,22 @@
 use Prim.Native.Nat.{_-_}
 use mathlib.Core.Path.{_≡_}
-use lib.ListN.{getD}
+use lib.ListN.{length, getD}
 use lib.Ieee.{nan}
 use borrow.Author.Needs.{needs}
 use Rattle.tables.specs.Layout.{noFloat}
-use Rattle.sound.proofs.laws.Deciding.{refused, granted, Swept, swept-none, swept-on, swept-all, swept-failed, decides-copies}
+use Rattle.sound.proofs.laws.Deciding.{decides-copies}
+use Rattle.shape.proofs.laws.Zero.{Sifted, sifted-none, sifted-on, sifted-all}
 use Rattle.shape.proofs.unused.floats_zero.Statement.{statement}
 use Rattle.shape.proofs.unused.floats_zero.Tie as tie
 
 abbrev Inv-loop : tie.InvT-loop
-Inv-loop table from n i₀ i = Swept (λ k. getD table k nan ≡ noFloat) from i
+Inv-loop table from n clean₀ i₀ clean i = Sifted (λ k. getD table k nan ≡ noFloat) from (length table) i clean
 
 abbrev μ-loop : tie.MeasureT-loop
-μ-loop table from n i₀ i = n - i
+μ-loop table from n clean₀ i₀ clean i = n - i
 
 loop-holds : tie.Need-loop-holds Inv-loop μ-loop
-loop-holds c = swept-none _
+loop-holds c = sifted-none (search needs)
 
 mul-is-zero : tie.Need-mul-is-zero Inv-loop μ-loop
 mul-is-zero c = search needs
@@ -26,8 +27,8 @@ shared-slice-read-is-zero c = search needs
 is-zero-requires : tie.Need-is-zero-requires Inv-loop μ-loop
 is-zero-requires c κs = search needs
 
-returns : tie.Need-returns Inv-loop μ-loop
-returns c = decides-copies noFloat nan _ _ (swept-failed (c .before .before .before .before .loop .inv) (search needs) (refused (c .before .is-zero .ensures) (c .if1 .taken)))
+both-requires : tie.Need-both-requires Inv-loop μ-loop
+both-requires c κs = search needs
 
 add-i : tie.Need-add-i Inv-loop μ-loop
 add-i c = search needs
@@ -36,10 +37,10 @@ loop-less : tie.Need-loop-less Inv-loop μ-loop
 loop-less c = search needs
 
 loop-again : tie.Need-loop-again Inv-loop μ-loop
-loop-again c = swept-on (c .before .before .before .before .loop .inv) (granted (c .before .is-zero .ensures) (c .if1 .left))
+loop-again c = sifted-on (c .before .before .before .before .loop .inv) (search needs) (c .before .is-zero .ensures) (c .both .ensures)
 
-returns-2 : tie.Need-returns-2 Inv-loop μ-loop
-returns-2 c = decides-copies noFloat nan _ _ (swept-all (c .before .loop .inv) (search needs))
+returns : tie.Need-returns Inv-loop μ-loop
+returns c = decides-copies noFloat nan _ _ (sifted-all (c .before .loop .inv) (search needs))
 
 pub floats-zero-spec : {M : Type 1} → statement M
 floats-zero-spec =
@@ -51,8 +52,8 @@ floats-zero-spec =
     mul-is-zero
     shared-slice-read-is-zero
     is-zero-requires
-    returns
+    both-requires
     add-i
     loop-less
     loop-again
-    returns-2)
+    returns)
