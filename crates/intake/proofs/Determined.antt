@@ -2,6 +2,7 @@
 use mathlib.Core.Path.{_≡_, sym, _∙_}
 use Rattle.intake.proofs.grid.number_at.Reads as number-at
 use Rattle.intake.proofs.grid.vertex_at.Reads as vertex-at
+use Rattle.intake.proofs.grid.corners.Reads as corners
 use Rattle.intake.proofs.verdict_at.Reads as verdict-at
 use Rattle.intake.proofs.judge_lengths.Reads as judge-lengths
 use Rattle.intake.proofs.judge_numbers.Reads as judge-numbers
@@ -20,3 +21,6 @@ number-at-determined κs a r r' s s' p q = p ∙ sym q
 
 pub vertex-at-determined : (κs : _) (a : _) (r r' : _) (s s' : _) → vertex-at.Learnt κs a r s → vertex-at.Learnt κs a r' s' → r ≡ r'
 vertex-at-determined κs a r r' s s' p q = p ∙ sym q
+
+pub corners-determined : (κs : _) (a : _) (r r' : _) (s s' : _) → corners.Learnt κs a r s → corners.Learnt κs a r' s' → r ≡ r'
+corners-determined κs a r r' s s' p q = p ∙ sym q

@@ -14,10 +14,10 @@ ghost use Rattle.opening.specs.Scratch.{Plain, Filled, Chosen, Other, Is
 
 // Of the elements that hold a vertex: how many hold all of a, b and c, and how many hold two of them.
 pub struct Seen {
-    pub all: usize,
-    pub ab: usize,
-    pub ac: usize,
-    pub bc: usize,
+    pub all: u32,
+    pub ab: u32,
+    pub ac: u32,
+    pub bc: u32,
 }
 
 // Whether number 6 is the case at an element, and number 7.
@@ -37,11 +37,11 @@ fn is(a: u32, b: u32) -> u32
 }
 
 // 1 where one of four different vertices is v, else 0. A sum without branches: no test would be foreseen.
-fn holds(w: Four, v: u32) -> usize
+fn holds(w: Four, v: u32) -> u32
     requires { ⌜ Different w ⌝ }
     ensures { λ r. ⌜ Held w v r ⌝ }
 {
-    wide(is(w.a, v) + is(w.b, v) + is(w.c, v) + is(w.d, v))
+    is(w.a, v) + is(w.b, v) + is(w.c, v) + is(w.d, v)
 }
 
 // Element j is seen: which of a, b and c it holds.

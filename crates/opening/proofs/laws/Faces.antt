@@ -7,7 +7,7 @@ use Prim.Native.Nat.{ℕ, zero, suc, _+_, _*_, _/_, _%_, _≤_, _<_}
 use native.Mathlib.Decide.{ℕ-discrete}
 use native.Mathlib.Nat.{le-trans, mul-le-mul-right}
 use native.Mathlib.Omega.{arith}
-use mir.Syntax.{w64}
+use mir.Syntax.{w32}
 use mir.Val.{Fits}
 use mir.Facts.{fits-below}
 use borrow.Author.Tests.{eq-eqb, ne-eqb, eqb-true}
@@ -51,7 +51,7 @@ one-small : (b : Bool) → one b ≤ 1
 one-small true = omega arith
 one-small false = omega arith
 
-pub held-sum : (w : Four) (v : ℕ) {p q r t n : ℕ} → Different w → Is (w .a) v p → Is (w .b) v q → Is (w .c) v r → Is (w .d) v t → n ≡ p + q + r + t → Held w v n
+held-sum : (w : Four) (v : ℕ) {p q r t n : ℕ} → Different w → Is (w .a) v p → Is (w .b) v q → Is (w .c) v r → Is (w .d) v t → n ≡ p + q + r + t → Held w v n
 unfolding among
 held-sum w v {n = n} d p q r t e = record { is = is; small = rw is (one-small (eqb (w .a) v || (eqb (w .b) v || (eqb (w .c) v || eqb (w .d) v)))) }
   where
@@ -60,6 +60,9 @@ held-sum w v {n = n} d p q r t e = record { is = is; small = rw is (one-small (e
 
     is : n ≡ one (eqb (w .a) v || (eqb (w .b) v || (eqb (w .c) v || eqb (w .d) v)))
     is = rw (e, p .is, q .is, r .is, t .is) (sum-any _ _ _ _ (not _ _ (d .ab)) (not _ _ (d .ac)) (not _ _ (d .ad)) (not _ _ (d .bc)) (not _ _ (d .bd)) (not _ _ (d .cd)))
+
+pub summed : (w : Four) (v : ℕ) {p q r t : ℕ} → Different w → Is (w .a) v p → Is (w .b) v q → Is (w .c) v r → Is (w .d) v t → Held w v (p + q + r + t)
+summed w v d p q r t = held-sum w v d p q r t refl
 
 pub plain-different : {vertices : ℕ} {E : Cells} (k : ℕ) → Plain vertices E → k < E .count → Different (fourOf E k)
 unfolding fourOf
@@ -244,10 +247,10 @@ ones false false = refl
 pub product-small : (x y : ℕ) → x ≤ 1 → y ≤ 1 → x * y ≤ 1
 product-small x y h l = le-trans (mul-le-mul-right y h) (omega arith)
 
-pub product-fits : (x y : ℕ) → x ≤ 1 → y ≤ 1 → Fits w64 (x * y)
+pub product-fits : (x y : ℕ) → x ≤ 1 → y ≤ 1 → Fits w32 (x * y)
 product-fits x y h l = fits-below tt (product-small x y h l)
 
-pub sum-fits : (n p : ℕ) → n ≤ 4 * mostRows → p ≤ 1 → Fits w64 (n + p)
+pub sum-fits : (n p : ℕ) → n ≤ 4 * mostRows → p ≤ 1 → Fits w32 (n + p)
 sum-fits n p h l = fits-below {n = 400001} tt (omega arith)
 
 pub ruleset products = (product-small, product-fits, sum-fits)

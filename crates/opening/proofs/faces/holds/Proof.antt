@@ -1,5 +1,5 @@
 use borrow.Author.Needs.{needs}
-use Rattle.opening.proofs.laws.Faces.{held-sum}
+use Rattle.opening.proofs.laws.Faces.{summed}
 use Rattle.opening.proofs.faces.holds.Statement.{statement}
 use Rattle.opening.proofs.faces.holds.Tie as tie
 
@@ -9,26 +9,23 @@ is-requires c κs = search needs
 is-requires-2 : tie.Need-is-requires-2
 is-requires-2 c κs = search needs
 
-add-wide : tie.Need-add-wide
-add-wide c = search needs
+add-result : tie.Need-add-result
+add-result c = search needs
 
 is-requires-3 : tie.Need-is-requires-3
 is-requires-3 c κs = search needs
 
-add-wide-2 : tie.Need-add-wide-2
-add-wide-2 c = search needs
+add-result-2 : tie.Need-add-result-2
+add-result-2 c = search needs
 
 is-requires-4 : tie.Need-is-requires-4
 is-requires-4 c κs = search needs
 
-add-wide-3 : tie.Need-add-wide-3
-add-wide-3 c = search needs
-
-wide-requires : tie.Need-wide-requires
-wide-requires c κs = search needs
+add-result-3 : tie.Need-add-result-3
+add-result-3 c = search needs
 
 returns : tie.Need-returns
-returns c = search (held-sum, needs)
+returns c = search (summed, needs)
 
 pub holds-spec : {M : Type 1} → statement M
 holds-spec =
@@ -36,10 +33,9 @@ holds-spec =
     (tie.spec
     is-requires
     is-requires-2
-    add-wide
+    add-result
     is-requires-3
-    add-wide-2
+    add-result-2
     is-requires-4
-    add-wide-3
-    wide-requires
+    add-result-3
     returns)
