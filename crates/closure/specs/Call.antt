@@ -34,7 +34,7 @@ pub record Closes (t : Lent) (c : Counts) (marks : List ℕ) (o : Refined) (t' :
 -- so many numbers are enough memory for an element table of w: for closure, and for the check before it
 pub record Spacious (w memory : ℕ) : Type 0 where
   pub closure : scratchFor w ≤ memory
-  pub check : 100000 ≤ memory
+  pub check : 36382 ≤ memory
 
 pub record Callable (p : List Float) (r w s : List ℕ) (c : Counts) : Type 0 where
   pub sound : Sound (lent p r w) c

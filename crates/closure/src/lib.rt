@@ -52,9 +52,13 @@ pub fn refine(
 ) -> Refined
     ensures { λ r. ⌜ Refines (lent (now (points .entry)) (now (records .entry)) (now (rows .entry))) c (now (marks .entry)) r (lent (now (points .exit)) (now (records .exit)) (now (rows .exit))) ⌝ }
 {
-    if rows.len() / ROW <= 12000 {
-        let mut small = [0u32; 100000];
+    if rows.len() / ROW <= 4000 {
+        let mut small = [0u32; 60000];
         return refine_in(points, records, rows, &mut small, c, marks);
+    }
+    if rows.len() / ROW <= 12000 {
+        let mut middle = [0u32; 100000];
+        return refine_in(points, records, rows, &mut middle, c, marks);
     }
     let mut large = [0u32; 540000];
     refine_in(points, records, rows, &mut large, c, marks)

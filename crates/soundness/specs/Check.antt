@@ -1,6 +1,6 @@
 -- What the parts of the check decide beside the shape: clauses 3, 6 and 7. Callers are promised nothing of it but `SoundIn`, by `check_in`.
 use mathlib.Core.Path.{_≡_}
-use mathlib.Core.Bool.{Bool, true}
+use mathlib.Core.Bool.{Bool, true, false}
 use mathlib.Core.List.{List, []}
 use Prim.Native.Nat.{ℕ, _+_, _-_, _*_, _%_, _≤_, _<_, min, max}
 use lib.ListN.{length, getD}
@@ -27,17 +27,18 @@ pub record Run (i n : ℕ) : Type 0 where
   pub order : i ≤ n
   pub few : n ≤ mostVertices
 
--- the keys of the index; its links come after as many heads
-abbrev pub heads : ℕ
-heads = 80000
+-- the keys of the index of a small mesh, or of any; its links come after as many heads
+abbrev pub heads : Bool → ℕ
+heads true = 16382
+heads false = 80000
 
--- the key of a pair: 79999 is prime and above every vertex, so that pairs with the same smaller vertex, or the same larger one, have different keys
-unfoldable pub keyOf : ℕ → ℕ → ℕ
-keyOf a b = (a * 7919 + b) % 79999
+-- the key of a pair: a remainder by a prime, so that pairs with the same smaller vertex, or the same larger one, seldom have the same key, and never where the prime is above every vertex
+unfoldable pub keyOf : Bool → ℕ → ℕ → ℕ
+keyOf small a b = (a * 7919 + b) % (heads small - 1)
 
 -- the key at place s of the index, that of vertex i + s
-abbrev pub pairAt : List ℕ → ℕ → ℕ → ℕ
-pairAt r i s = keyOf (recordAt r (i + s) .first) (recordAt r (i + s) .second)
+abbrev pub pairAt : Bool → List ℕ → ℕ → ℕ → ℕ
+pairAt small r i s = keyOf small (recordAt r (i + s) .first) (recordAt r (i + s) .second)
 
 -- the parents of v are a and b
 pub record Has (r : List ℕ) (v a b : ℕ) : Type 0 where
@@ -56,14 +57,14 @@ abbrev pub AllSingle : List ℕ → ℕ → ℕ → Type 0
 AllSingle r i n = (v : ℕ) → i ≤ v → v < n → Single r i v
 
 -- a scratch table with room for an index of 20,000 places, and no head set
-pub record Fresh (scratch : List ℕ) : Type 0 where
-  pub size : heads + mostVertices ≤ length scratch
-  pub clear : (v : ℕ) → v < heads → getD scratch v 0 ≡ 0
+pub record Fresh (small : Bool) (scratch : List ℕ) : Type 0 where
+  pub size : heads small + mostVertices ≤ length scratch
+  pub clear : (v : ℕ) → v < heads small → getD scratch v 0 ≡ 0
 
 -- the answer b: no pair stands twice, and then all are in the index
-pub record Entered (r : List ℕ) (i n : ℕ) (b : Bool) (scratch : List ℕ) : Type 0 where
+pub record Entered (small : Bool) (r : List ℕ) (i n : ℕ) (b : Bool) (scratch : List ℕ) : Type 0 where
   pub decides : Decides (AllSingle r i n) b
-  pub index : b ≡ true → Indexed (pairAt r i) (n - i) heads scratch
+  pub index : b ≡ true → Indexed (pairAt small r i) (n - i) (heads small) scratch
 
 -- the parents of each midpoint stand in order
 pub record Rising (r : List ℕ) (i n : ℕ) : Type 0 where
@@ -105,9 +106,9 @@ pub record Rest (p : List Float) (r w : List ℕ) (c : Counts) (i : ℕ) : Type 
 
 -- ---- lent memory
 
--- how many numbers are enough for the check of so many rows: the index of pairs has 80,000 heads and 20,000 links, that of opening a head for each vertex and four links for each root
+-- how many numbers are enough for the check of so many rows: the index of pairs of a small mesh has 16,382 heads, and 20,000 links, that of opening a head for each vertex and four links for each root
 abbrev pub memoryFor : ℕ → ℕ
-memoryFor rows = max (heads + mostVertices) (mostVertices + 4 * min mostRows rows)
+memoryFor rows = max 36382 (mostVertices + 4 * min mostRows rows)
 
 -- so many numbers are enough, and the tables are sound
 pub record SoundIn (memory : ℕ) (t : Lent) (c : Counts) : Type 0 where

@@ -35,8 +35,8 @@ fn decide(points: &[f64], records: &[u32], rows: &[u32], c: Counts, work: &mut [
 pub fn check(points: &[f64], records: &[u32], rows: &[u32], c: Counts) -> bool
     ensures { λ r. ⌜ Decides (Sound (lent (now (points .entry)) (now (records .entry)) (now (rows .entry))) c) r ⌝ }
 {
-    if c.rows <= 20000 {
-        let mut small = [0u32; 100000];
+    if c.rows <= 10000 {
+        let mut small = [0u32; 60000];
         return decide(points, records, rows, c, &mut small);
     }
     let mut large = [0u32; 420000];
@@ -47,7 +47,7 @@ pub fn check(points: &[f64], records: &[u32], rows: &[u32], c: Counts) -> bool
 fn is_enough(c: Counts, memory: usize) -> bool
     ensures { λ r. ⌜ Decides (memoryFor (c .rows) ≤ memory) r ⌝ }
 {
-    if memory < 100000 {
+    if memory < 36382 {
         return false;
     }
     MOST_VERTICES + CORNERS * least(MOST_ROWS, c.rows) <= memory

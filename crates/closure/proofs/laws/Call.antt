@@ -273,9 +273,13 @@ module _ {p : List Float} {r w s : List ℕ} {c : Counts} {memory : ℕ} (x : Sp
 pub ruleset wholly = (refine-unsound, refine-sound, refine-callable)
 
 -- zeros over any length, so that none are written out
-pub spacious-small : (w n : ℕ) → n ≡ 100000 → w / rowWidth ≤ 12000 → Spacious w (length (replicate {A = ℕ} n 0))
+pub spacious-small : (w n : ℕ) → n ≡ 60000 → w / rowWidth ≤ 4000 → Spacious w (length (replicate {A = ℕ} n 0))
 unfolding scratchFor
 spacious-small w n e h = rw (length-replicate {A = ℕ} n 0) (record { closure = omega arith; check = omega arith })
+
+pub spacious-middle : (w n : ℕ) → n ≡ 100000 → w / rowWidth ≤ 12000 → Spacious w (length (replicate {A = ℕ} n 0))
+unfolding scratchFor
+spacious-middle w n e h = rw (length-replicate {A = ℕ} n 0) (record { closure = omega arith; check = omega arith })
 
 pub spacious-large : (w n : ℕ) → n ≡ 540000 → Spacious w (length (replicate {A = ℕ} n 0))
 unfolding scratchFor

@@ -6,10 +6,10 @@ use Rattle.soundness.proofs.check.Statement.{statement}
 use Rattle.soundness.proofs.check.Tie as tie
 
 slice-aggregate-decide : tie.Need-slice-aggregate-decide
-slice-aggregate-decide c = zeros-count 100000
+slice-aggregate-decide c = zeros-count 60000
 
 decide-requires : tie.Need-decide-requires
-decide-requires c κs = enough-small _ 100000 refl (c .before .if1 .taken)
+decide-requires c κs = enough-small _ 60000 refl (c .before .if1 .taken)
 
 returns : tie.Need-returns
 returns c = c .before .decide .ensures

@@ -3,6 +3,7 @@ use mathlib.Core.Path.{_≡_, sym, ap, _∙_}
 use mathlib.Core.Bool.{Bool, true, false, not}
 use mathlib.Core.List.{List, _++_}
 use Prim.Native.Nat.{ℕ, _+_, _-_, _*_, _≤_, _<_, min}
+use native.Mathlib.Nat.{sub-zero}
 use native.Mathlib.Omega.{arith}
 use borrow.Author.Tests.{leb-true, leb-false}
 use lib.Dec.{leb}
@@ -30,10 +31,11 @@ module _ (n : ℕ) (l : List ℕ) {a : List ℕ} (e : a ≡ replicate n 0) where
   front-length : n ≤ length l → length (a ++ drop n l) ≡ length l
   front-length h = rw (length-append a (drop n l), e, length-replicate {A = ℕ} n 0, length-drop n l) (omega arith)
 
-pub heads-fresh : (l : List ℕ) {a : List ℕ} → a ≡ replicate (length (take (heads - 0) l)) 0 → 100000 ≤ length l → Fresh (a ++ drop heads l)
-heads-fresh l {a} e h =
-    let f : a ≡ replicate heads 0 = e ∙ ap (λ (n : ℕ). replicate n 0) (length-take-le heads l (omega arith)) in
-    record { size = rw (front-length heads l f (omega arith)) h; clear = front-zero heads l f }
+pub heads-fresh : (small : Bool) (l : List ℕ) {k : ℕ} {a : List ℕ} → k ≡ heads small → a ≡ replicate (length (take (k - 0) l)) 0 → heads small + mostVertices ≤ length l → Fresh small (a ++ drop (k - 0) l)
+heads-fresh small l {k} {a} q e h =
+    let long : length (take (k - 0) l) ≡ heads small = rw (q, sub-zero (heads small)) (length-take-le (heads small) l (omega arith)) in
+    let f : a ≡ replicate (heads small) 0 = e ∙ ap (λ (m : ℕ). replicate m 0) long in
+    rw (q, sub-zero (heads small)) (record { size = rw (front-length (heads small) l f (omega arith)) h; clear = front-zero (heads small) l f })
 
 module _ {p : List Float} {r w : List ℕ} {c : Counts} {i t : ℕ} (b : Shapely p r w c i t) where
   -- what the index of pairs relies on
@@ -120,18 +122,25 @@ pub ruleset shapes = (shape-runs, shape-not)
 -- ---- in lent memory
 
 module _ (rows memory : ℕ) where
-  pub memory-small : memory < mostRows → Decides (memoryFor rows ≤ memory) false
+  pub memory-small : memory < 36382 → Decides (memoryFor rows ≤ memory) false
   memory-small h = decides-false (λ l. omega arith)
 
-  pub memory-tested : {n : ℕ} {r : Bool} → 100000 ≤ memory → n ≡ min mostRows rows → r ≡ leb (mostVertices + 4 * n) memory → Decides (memoryFor rows ≤ memory) r
+  pub memory-tested : {n : ℕ} {r : Bool} → 36382 ≤ memory → n ≡ min mostRows rows → r ≡ leb (mostVertices + 4 * n) memory → Decides (memoryFor rows ≤ memory) r
   memory-tested {n} h e f = record { yes = λ y. let l = leb-true (mostVertices + 4 * n) memory (sym f ∙ y) in omega arith; no = λ y l. let g = leb-false (mostVertices + 4 * n) memory (sym f ∙ y) in omega arith }
 
 -- zeros over any length, so that none are written out
-pub enough-small : (rows n : ℕ) → n ≡ 100000 → rows ≤ 20000 → memoryFor rows ≤ length (replicate {A = ℕ} n 0)
+pub enough-small : (rows n : ℕ) → n ≡ 60000 → rows ≤ 10000 → memoryFor rows ≤ length (replicate {A = ℕ} n 0)
 enough-small rows n e h = rw length-replicate (omega arith)
 
 pub enough-large : (rows n : ℕ) → n ≡ 420000 → memoryFor rows ≤ length (replicate {A = ℕ} n 0)
 enough-large rows n e = rw length-replicate (omega arith)
+
+-- enough for the index of pairs
+pub pairs-enough : (rows n : ℕ) → memoryFor rows ≤ n → heads true + mostVertices ≤ n
+pairs-enough rows n h = let l : 16382 + 20000 ≤ n = omega arith in l
+
+pub pairs-wide : (n : ℕ) → 100000 ≤ n → heads false + mostVertices ≤ n
+pairs-wide n h = h
 
 -- enough for the index of opening
 pub roots-enough : {p : List Float} {r w : List ℕ} {c : Counts} {i t n : ℕ} → Shapely p r w c i t → memoryFor (c .rows) ≤ n → mostVertices + 4 * t ≤ n

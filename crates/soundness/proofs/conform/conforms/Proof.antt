@@ -7,10 +7,10 @@ use Rattle.soundness.proofs.conform.conforms.Statement.{statement}
 use Rattle.soundness.proofs.conform.conforms.Tie as tie
 
 abbrev Inv-loop : tie.InvT-loop
-Inv-loop records rows scratch i n count q₀ q = Swept (Whole records rows i n) 0 q
+Inv-loop records rows scratch small i n count q₀ q = Swept (Whole records rows i n) 0 q
 
 abbrev μ-loop : tie.MeasureT-loop
-μ-loop records rows scratch i n count q₀ q = count - q
+μ-loop records rows scratch small i n count q₀ q = count - q
 
 loop-holds : tie.Need-loop-holds Inv-loop μ-loop
 loop-holds c = swept-none _

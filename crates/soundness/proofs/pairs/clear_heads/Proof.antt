@@ -3,6 +3,9 @@ use borrow.Author.Needs.{needs}
 use Rattle.soundness.proofs.pairs.clear_heads.Statement.{statement}
 use Rattle.soundness.proofs.pairs.clear_heads.Tie as tie
 
+heads-requires : tie.Need-heads-requires
+heads-requires c κs = search needs
+
 sub-clear : tie.Need-sub-clear
 sub-clear c = search needs
 
@@ -19,9 +22,16 @@ same-length : tie.Need-same-length
 same-length c = search needs
 
 returns : tie.Need-returns
-returns c = heads-fresh (c .before .before .before .before .before .args .scratch .now) (c .before .before .clear .ensures) (c .before .before .before .before .before .pre)
+returns c = heads-fresh _ (c .before .before .before .before .before .before .args .scratch .now) (c .before .before .before .before .heads .ensures) (c .before .before .clear .ensures) (c .before .before .before .before .before .before .pre)
 
 pub clear-heads-spec : {M : Type 1} → statement M
 clear-heads-spec =
     tie.close
-    (tie.spec sub-clear part-clear-start part-clear-end clear-requires same-length returns)
+    (tie.spec
+    heads-requires
+    sub-clear
+    part-clear-start
+    part-clear-end
+    clear-requires
+    same-length
+    returns)

@@ -6,10 +6,10 @@ use Rattle.soundness.proofs.pairs.enter.Statement.{statement}
 use Rattle.soundness.proofs.pairs.enter.Tie as tie
 
 abbrev Inv-loop : tie.InvT-loop
-Inv-loop records i n scratch₀ v₀ scratch v = Entering records i n v scratch₀ scratch
+Inv-loop records small i n scratch₀ v₀ scratch v = Entering small records i n v scratch₀ scratch
 
 abbrev μ-loop : tie.MeasureT-loop
-μ-loop records i n scratch₀ v₀ scratch v = n - v
+μ-loop records small i n scratch₀ v₀ scratch v = n - v
 
 loop-holds : tie.Need-loop-holds Inv-loop μ-loop
 loop-holds c = search (entering-none, needs)
@@ -26,14 +26,11 @@ same-length c = search needs
 returns : tie.Need-returns Inv-loop μ-loop
 returns c = search (entered-twice, needs)
 
-sub-push : tie.Need-sub-push Inv-loop μ-loop
-sub-push c = search needs
+sub-push-pair : tie.Need-sub-push-pair Inv-loop μ-loop
+sub-push-pair c = search needs
 
-key-requires : tie.Need-key-requires Inv-loop μ-loop
-key-requires c κs = search needs
-
-push-requires : tie.Need-push-requires Inv-loop μ-loop
-push-requires c κs = search needs
+push-pair-requires : tie.Need-push-pair-requires Inv-loop μ-loop
+push-pair-requires c κs = search needs
 
 add-v : tie.Need-add-v Inv-loop μ-loop
 add-v c = search needs
@@ -61,9 +58,8 @@ enter-spec =
     untaken-requires
     same-length
     returns
-    sub-push
-    key-requires
-    push-requires
+    sub-push-pair
+    push-pair-requires
     add-v
     loop-less
     loop-again

@@ -1,15 +1,18 @@
 -- `soundness::pairs::untaken` meets its contract. The loop's invariant: no place of the key from where the walk is on is of a vertex with these parents. Assumes nothing.
 use borrow.Author.Needs.{needs}
-use Rattle.soundness.proofs.laws.Chains.{walked-head, walked-less}
-use Rattle.soundness.proofs.laws.Pairs.{Seeking, key-low, seek-on, seek-met, seek-done}
+use Rattle.soundness.proofs.laws.Chains.{walked-head}
+use Rattle.soundness.proofs.laws.Pairs.{Seeking, key-low, seek-less, seek-on, seek-met, seek-done}
 use Rattle.soundness.proofs.pairs.untaken.Statement.{statement}
 use Rattle.soundness.proofs.pairs.untaken.Tie as tie
 
 abbrev Inv-loop : tie.InvT-loop
-Inv-loop records scratch i n a b x₀ x = Seeking records i n a b x
+Inv-loop records scratch small i n a b links x₀ x = Seeking small records i n a b x
 
 abbrev μ-loop : tie.MeasureT-loop
-μ-loop records scratch i n a b x₀ x = x
+μ-loop records scratch small i n a b links x₀ x = x
+
+heads-requires : tie.Need-heads-requires Inv-loop μ-loop
+heads-requires c κs = search needs
 
 key-requires : tie.Need-key-requires Inv-loop μ-loop
 key-requires c κs = search needs
@@ -51,7 +54,7 @@ wide-requires-2 : tie.Need-wide-requires-2 Inv-loop μ-loop
 wide-requires-2 c κs = search needs
 
 loop-less : tie.Need-loop-less Inv-loop μ-loop
-loop-less c = search (walked-less, needs)
+loop-less c = search (seek-less, needs)
 
 loop-again : tie.Need-loop-again Inv-loop μ-loop
 loop-again c = search (seek-on, needs)
@@ -65,6 +68,7 @@ untaken-spec =
     (tie.spec
     Inv-loop
     μ-loop
+    heads-requires
     key-requires
     mul-wide
     shared-slice-read-wide

@@ -1,4 +1,4 @@
-use Rattle.soundness.proofs.laws.Steps.{judging, roots-enough}
+use Rattle.soundness.proofs.laws.Steps.{judging, pairs-enough, roots-enough}
 use borrow.Author.Needs.{needs}
 use Rattle.soundness.proofs.steps.judge.Statement.{statement}
 use Rattle.soundness.proofs.steps.judge.Tie as tie
@@ -27,8 +27,8 @@ same-length-3 c = search needs
 returns-3 : tie.Need-returns-3
 returns-3 c = search (judging, needs)
 
-pairs-fit-requires : tie.Need-pairs-fit-requires
-pairs-fit-requires c κs = (search (judging, needs), (search (judging, needs), search needs))
+pairs-in-requires : tie.Need-pairs-in-requires
+pairs-in-requires c κs = (search (judging, needs), (search (judging, needs), search (pairs-enough, needs)))
 
 same-length-4 : tie.Need-same-length-4
 same-length-4 c = search needs
@@ -48,6 +48,6 @@ judge-spec =
     midpoints-follow-requires
     same-length-3
     returns-3
-    pairs-fit-requires
+    pairs-in-requires
     same-length-4
     returns-4)
