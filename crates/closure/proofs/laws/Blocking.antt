@@ -8,6 +8,7 @@ use native.Mathlib.Numerals.{add-one}
 use lib.Dec.{eqb}
 use lib.ListN.{length, getD, drop}
 use borrow.Author.Tests.{eq-eqb, ne-eqb, not-true, not-false}
+use borrow.Author.Needs.{needs}
 use Rattle.split.specs.declared.row.Ends.{Ends}
 use Rattle.split.specs.Row.{edgeOf}
 use Rattle.intake.specs.declared.answer.Found.the-variants.{At, Nowhere}
@@ -59,4 +60,4 @@ module _ {w s : List ℕ} {n k : ℕ} (e : Ends) (l : Listed s n k) where
   unfolding otherIn
   looked-end {j} x h = let last : j ≡ k = omega (arith, x .within) in rw (last, patch-end s k) at (x .rest)
 
-pub ruleset looking = (looked-start, looked-stop, looked-next, looked-end)
+pub ruleset looking = (looked-start, looked-stop, looked-next, looked-end, needs)

@@ -4,6 +4,7 @@ use mathlib.Core.List.{List}
 use Prim.Native.Nat.{ℕ, _+_, _*_, _≤_, _<_}
 use native.Mathlib.Omega.{arith}
 use lib.ListN.{length}
+use borrow.Author.Needs.{needs}
 use Rattle.chain.specs.Chain.{Indexed}
 use Rattle.chain.proofs.laws.Index.{indexed-none}
 use Rattle.tables.specs.Layout.{rowAt, mostRows}
@@ -43,4 +44,4 @@ module _ {w s₀ : List ℕ} {n : ℕ} (x : Indexable w s₀ n) where
       let all : k ≡ n = omega (arith, b .within) in
       record { size = rw (b .size) (x .fresh .size); index = rw all at (b .index); few = x .few; fits = x .fits; low = x .low; blank = x .blank }
 
-pub ruleset building = (building-start, building-room, building-places, building-next, building-end)
+pub ruleset building = (building-start, building-room, building-places, building-next, building-end, needs)

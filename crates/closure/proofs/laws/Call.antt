@@ -9,6 +9,7 @@ use lib.Dec.{leb, ltb}
 use lib.ListN.{length, getD, drop, replicate, length-replicate}
 use lib.Ieee.{Float}
 use borrow.Author.Tests.{le-leb, lt-leb, lt-ltb, le-ltb, not-true, not-false}
+use borrow.Author.Needs.{needs}
 use Rattle.split.proofs.laws.Places.{le-or-lt}
 use Rattle.tables.specs.declared.layout.Counts.{Counts}
 use Rattle.tables.specs.declared.layout.Size.{Size}
@@ -225,7 +226,7 @@ module _ {p : List Float} {r w s : List ℕ} {c : Counts} {marks : List ℕ} (x 
             accepted;
       }
 
-pub ruleset closing = (close-index, close-due, close-full, close-finish, close-done)
+pub ruleset closing = (close-index, close-due, close-full, close-finish, close-done, needs)
 
 -- ---- the call
 
@@ -251,7 +252,7 @@ module _ {p : List Float} {r w s : List ℕ} {c : Counts} (x : Callable p r w s 
     pub call-closed : {a : Refined} {t : Lent} → Closes (lent p r w) c marks a t → Calls (lent p r w) c marks a t
     call-closed g = let ok = fair {w = w} {n = c .rows} {marks = marks} (sym e ∙ f) in record { judged = λ y. present (ok .there) (shallow (marks-shallow y marks (ok .there) (ok .shallow)) (g .room y)) }
 
-pub ruleset calling = (call-refused, call-closable, call-closed)
+pub ruleset calling = (call-refused, call-closable, call-closed, needs)
 
 -- ---- the whole
 
@@ -270,7 +271,7 @@ module _ {p : List Float} {r w s : List ℕ} {c : Counts} {memory : ℕ} (x : Sp
   pub refine-callable : not b ≡ false → Callable p r w s c
   refine-callable e = record { sound = d .0 .yes (not-false b e) .sound; fresh = record { size = rw (d .1, length-replicate {A = ℕ} memory 0) (x .closure); heads = λ v h. rw (d .1) (zeros-at memory v) } }
 
-pub ruleset wholly = (refine-unsound, refine-sound, refine-callable)
+pub ruleset wholly = (refine-unsound, refine-sound, refine-callable, needs)
 
 -- zeros over any length, so that none are written out
 pub spacious-small : (w n : ℕ) → n ≡ 60000 → w / rowWidth ≤ 4000 → Spacious w (length (replicate {A = ℕ} n 0))

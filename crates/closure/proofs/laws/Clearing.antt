@@ -4,6 +4,7 @@ use mathlib.Core.List.{List}
 use Prim.Native.Nat.{ℕ, _+_, _-_, _*_, _<_}
 use native.Mathlib.Omega.{arith}
 use lib.ListN.{length}
+use borrow.Author.Needs.{needs}
 use Rattle.split.specs.Split.{Distinct}
 use Rattle.split.specs.Row.{cornersOf}
 use Rattle.tables.specs.declared.layout.Counts.{Counts}
@@ -151,7 +152,7 @@ module _ {r₀ w₀ s₀ r w s : List ℕ} {c : Counts} {room : Size} {d : Count
 pub half-falls : {t a b : ℕ} → 2 * a ≡ t → b < a → 2 * b + 1 < t
 half-falls e h = omega (arith, e, h)
 
-pub ruleset clearing = (clearing-start, clearing-look, clearing-clear, clearing-block, clearing-full, clearing-next, clearing-less)
+pub ruleset clearing = (clearing-start, clearing-look, clearing-clear, clearing-block, clearing-full, clearing-next, clearing-less, needs)
 
 -- ---- refining
 
@@ -171,4 +172,4 @@ module _ {r w r' w' s' : List ℕ} {c : Counts} {room : Size} {q : ℕ} {o : Pat
           full = λ a z. let j = f .full a z in record { stuck = y .towards .stuck (j .stuck); reach = reach-on (y .reach) (j .reach); tables = j .tables };
         }
 
-pub ruleset refining = (refine-full, refine-ready, refine-done)
+pub ruleset refining = (refine-full, refine-ready, refine-done, needs)

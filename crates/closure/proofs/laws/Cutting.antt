@@ -8,6 +8,7 @@ use native.Mathlib.Omega.{arith}
 use lib.Dec.{leb}
 use lib.ListN.{length, getD, length-append}
 use borrow.Author.Tests.{lt-ltb, le-ltb, leb-true, leb-false, ltb-true, not-true, not-false}
+use borrow.Author.Needs.{needs}
 use Rattle.split.specs.declared.row.Row.{Row}
 use Rattle.split.specs.declared.row.Ends.{Ends}
 use Rattle.split.specs.Row.{edgeOf}
@@ -183,4 +184,4 @@ module _ {r w s : List ℕ} {d : Counts} {room : Size} {q k : ℕ} (x : Cuttable
       pub cut-done : {a : Counts} → a ≡ d' → Refines r w d room q (Done a) r' w' s'
       cut-done e = subst (λ (a : Counts). Refines r w d room q (Done a) r' w' s') (sym e) cut-ran
 
-pub ruleset cutting = (cut-few, cut-full, cut-ready, cut-done)
+pub ruleset cutting = (cut-few, cut-full, cut-ready, cut-done, needs)

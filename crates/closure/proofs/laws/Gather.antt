@@ -7,6 +7,7 @@ use native.Mathlib.Omega.{arith}
 use native.Mathlib.Numerals.{add-one}
 use lib.ListN.{length, getD, set, length-set}
 use lib.Seq.{ext-getD, getD-set-same, getD-set-other}
+use borrow.Author.Needs.{needs}
 use Rattle.split.specs.declared.row.Row.{Row}
 use Rattle.split.specs.declared.row.Ends.{Ends}
 use Rattle.split.specs.Split.{at, Holds}
@@ -225,4 +226,4 @@ module _ {w s₀ : List ℕ} {n : ℕ} {e : Ends} {a : ℕ} (g : Gatherable w s�
         size = omega (arith, x .few);
       }
 
-pub ruleset walking = (walk-start, walk-room, walk-fits, walk-less, walk-next, walk-end)
+pub ruleset walking = (walk-start, walk-room, walk-fits, walk-less, walk-next, walk-end, needs)

@@ -6,6 +6,7 @@ use Prim.Native.Nat.{ℕ, _+_, _-_, _*_, _/_, _%_, _≤_, _<_}
 use native.Mathlib.Decide.{ℕ-discrete}
 use native.Mathlib.Omega.{arith}
 use lib.ListN.{length, getD, set}
+use borrow.Author.Needs.{needs}
 use Rattle.split.specs.declared.row.Row.{Row}
 use Rattle.split.specs.Split.{Side, left, right, Corners, at}
 use Rattle.split.specs.Row.{cornersOf, tagOf, withChild, firstOf, secondOf, childOf}
@@ -179,4 +180,4 @@ module _ {w s : List ℕ} {n leaf v : ℕ} (z : Splittable w s n leaf v) where
   pub halved : {held : Row} {a w' s' : List ℕ} → held ≡ r → a ≡ w1 → w' ≡ putRow (putRow a n (firstOf held leaf v)) (n + 1) (secondOf held leaf v) → s' ≡ rowPushed (rowPushed s n (firstOf held leaf v)) (n + 1) (secondOf held leaf v) → Halves w s n leaf v w' s'
   halved b d e f = rw (e, f, b, d) halves
 
-pub ruleset halving = (halves-room, halved)
+pub ruleset halving = (halves-room, halved, needs)

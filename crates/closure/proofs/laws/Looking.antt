@@ -3,6 +3,7 @@ use mathlib.Core.Path.{_≡_, _∙_}
 use mathlib.Core.List.{List}
 use Prim.Native.Nat.{ℕ, _<_}
 use native.Mathlib.Omega.{arith}
+use borrow.Author.Needs.{needs}
 use Rattle.split.specs.declared.row.Row.{Row}
 use Rattle.split.specs.declared.row.Ends.{Ends}
 use Rattle.split.specs.Split.{at}
@@ -40,4 +41,4 @@ module _ {w s : List ℕ} {n q : ℕ} (x : Lookable w s n q) {e : Ends} (is : e 
       other = h ∙ rw (g .patch, is, ← up-to-at (rowAt w) n q noRow (x .there));
     }
 
-pub ruleset looks = (look-ready, look-listed, look-done)
+pub ruleset looks = (look-ready, look-listed, look-done, needs)

@@ -6,6 +6,7 @@ use native.Mathlib.Omega.{arith}
 use native.Mathlib.Numerals.{add-one}
 use lib.ListN.{length, getD, drop}
 use lib.Seq.{drop-cons, drop-length}
+use borrow.Author.Needs.{needs}
 use Rattle.split.specs.declared.row.Row.{Row}
 use Rattle.tables.specs.declared.layout.Counts.{Counts}
 use Rattle.tables.specs.declared.layout.Size.{Size}
@@ -68,7 +69,7 @@ module _ {r w s : List ℕ} {c : Counts} {room : Size} {q : ℕ} (x : Due r w s 
       full = λ a e. let j = f .full a e in record { stuck = λ rs. run.StuckAll.here leaf (j .stuck); reach = j .reach; tables = j .tables };
     }
 
-pub ruleset passing = (mark-passed, mark-sure, mark-refined)
+pub ruleset passing = (mark-passed, mark-sure, mark-refined, needs)
 
 -- ---- all marks
 
@@ -139,4 +140,4 @@ module _ {r₀ w₀ s₀ r w s marks : List ℕ} {c : Counts} {room : Size} {d :
   pub mark-scratch : {n : ℕ} → n ≡ length s → n ≡ length s₀
   mark-scratch e = e ∙ x .scratch-size
 
-pub ruleset marking = (marking-start, marking-due, marking-full, marking-next, marking-done, mark-records, mark-rows, mark-scratch)
+pub ruleset marking = (marking-start, marking-due, marking-full, marking-next, marking-done, mark-records, mark-rows, mark-scratch, needs)

@@ -6,6 +6,7 @@ use native.Mathlib.Omega.{arith}
 use native.Mathlib.Numerals.{add-one}
 use lib.ListN.{length, getD, drop}
 use lib.Seq.{drop-cons, drop-length}
+use borrow.Author.Needs.{needs}
 use Rattle.tables.proofs.laws.View.{length-up-to, up-to-at}
 use Rattle.run.specs.Run.{cutAll}
 use Rattle.closure.proofs.laws.Index.{scratch-holds}
@@ -75,4 +76,4 @@ module _ {w s : List ℕ} {n k v : ℕ} (p : Patchable w s n k v) where
       done : {w' s' : List ℕ} → Turn w s n k v w' s' k → drop k (patchIn s k) ≡ [] → Parted w s n k v w' s'
       done t e = record { size = t .size; state = t .state; rows = rw e at (t .rows) }
 
-pub ruleset turning = (turn-start, turn-ready, turn-next, turn-end)
+pub ruleset turning = (turn-start, turn-ready, turn-next, turn-end, needs)

@@ -6,6 +6,7 @@ use native.Mathlib.Omega.{arith}
 use borrow.Author.Tests.{lt-ltb, le-ltb}
 use lib.ListN.{length, getD, set, length-set}
 use lib.Seq.{getD-set-other, set-out}
+use borrow.Author.Needs.{needs}
 use Rattle.split.specs.declared.row.Row.{Row}
 use Rattle.split.specs.Split.{at}
 use Rattle.split.specs.Row.{cornersOf}
@@ -24,7 +25,7 @@ bump-more u h = rw (lt-ltb u 4294967295 h)
 pub bump-last : (u : ℕ) → 4294967295 ≤ u → u ≡ bumped u
 bump-last u h = rw (le-ltb u 4294967295 h)
 
-pub ruleset counts = (bump-more, bump-last)
+pub ruleset counts = (bump-more, bump-last, needs)
 
 module _ (s : List ℕ) (v : ℕ) where
   counted-length : length (counted s v) ≡ length s
@@ -73,7 +74,7 @@ pub enter-one : (s : List ℕ) (i : ℕ) {v k : ℕ} {a b : List ℕ} → k ≡ 
 unfolding entered
 enter-one s i e p q = q ∙ rw (p, e)
 
-pub ruleset entering = (enter-none, enter-one)
+pub ruleset entering = (enter-none, enter-one, needs)
 
 -- ---- a row
 

@@ -22,7 +22,7 @@ returns : tie.Need-returns
 returns c = refine-unsound (c .before .before .before .before .before .before .before .before .before .before .before .before .before .pre) (c .before .before .before .check-in .ensures) (c .if1 .taken)
 
 refine-sound-requires : tie.Need-refine-sound-requires
-refine-sound-requires c κs = search (wholly, needs)
+refine-sound-requires c κs = search wholly
 
 same-length-5 : tie.Need-same-length-5
 same-length-5 c = search needs

@@ -1,5 +1,4 @@
 use Prim.Native.Nat.{_-_}
-use borrow.Author.Needs.{needs}
 use Rattle.closure.proofs.laws.Build.{Building, building}
 use Rattle.closure.proofs.build.index_rows.Statement.{statement}
 use Rattle.closure.proofs.build.index_rows.Tie as tie
@@ -11,25 +10,25 @@ abbrev μ-loop : tie.MeasureT-loop
 μ-loop rows scratch₀ n k₀ scratch k = n - k
 
 loop-holds : tie.Need-loop-holds Inv-loop μ-loop
-loop-holds c = search (building, needs)
+loop-holds c = search building
 
 index-standing-requires : tie.Need-index-standing-requires Inv-loop μ-loop
-index-standing-requires c κs = search (building, needs)
+index-standing-requires c κs = search building
 
 add-k : tie.Need-add-k Inv-loop μ-loop
-add-k c = search (building, needs)
+add-k c = search building
 
 loop-less : tie.Need-loop-less Inv-loop μ-loop
-loop-less c = search (building, needs)
+loop-less c = search building
 
 loop-again : tie.Need-loop-again Inv-loop μ-loop
-loop-again c = search (building, needs)
+loop-again c = search building
 
 same-length : tie.Need-same-length Inv-loop μ-loop
-same-length c = search (building, needs)
+same-length c = search building
 
 returns : tie.Need-returns Inv-loop μ-loop
-returns c = search (building, needs)
+returns c = search building
 
 pub index-rows-spec : {M : Type 1} → statement M
 index-rows-spec =

@@ -7,10 +7,10 @@ room-requires : tie.Need-room-requires
 room-requires c κs = search needs
 
 index-rows-requires : tie.Need-index-rows-requires
-index-rows-requires c κs = search (closing, needs)
+index-rows-requires c κs = search closing
 
 refine-marks-requires : tie.Need-refine-marks-requires
-refine-marks-requires c κs = search (closing, needs)
+refine-marks-requires c κs = search closing
 
 enum-known-step : tie.Need-enum-known-step
 enum-known-step c = search needs

@@ -13,13 +13,13 @@ same-length : tie.Need-same-length
 same-length c = search needs
 
 returns : tie.Need-returns
-returns c = search (calling, needs)
+returns c = search calling
 
 enum-told : tie.Need-enum-told
 enum-told c = search needs
 
 close-requires : tie.Need-close-requires
-close-requires c κs = search (calling, needs)
+close-requires c κs = search calling
 
 same-length-2 : tie.Need-same-length-2
 same-length-2 c = search needs
@@ -34,7 +34,7 @@ same-length-5 : tie.Need-same-length-5
 same-length-5 c = search needs
 
 returns-2 : tie.Need-returns-2
-returns-2 c = search (calling, needs)
+returns-2 c = search calling
 
 pub refine-sound-spec : {M : Type 1} → statement M
 refine-sound-spec =

@@ -7,7 +7,7 @@ fits-requires : tie.Need-fits-requires
 fits-requires c κs = search needs
 
 returns : tie.Need-returns
-returns c = search (cutting, needs)
+returns c = search cutting
 
 edge-of-requires : tie.Need-edge-of-requires
 edge-of-requires c κs = search needs
@@ -19,7 +19,7 @@ cast-split-patch : tie.Need-cast-split-patch
 cast-split-patch c = search needs
 
 split-patch-requires : tie.Need-split-patch-requires
-split-patch-requires c κs = search (cutting, needs)
+split-patch-requires c κs = search cutting
 
 add-resized : tie.Need-add-resized
 add-resized c = search needs
@@ -43,7 +43,7 @@ same-length-3 : tie.Need-same-length-3
 same-length-3 c = search needs
 
 returns-2 : tie.Need-returns-2
-returns-2 c = search (cutting, needs)
+returns-2 c = search cutting
 
 pub cut-patch-spec : {M : Type 1} → statement M
 cut-patch-spec =

@@ -7,7 +7,7 @@ wide-requires : tie.Need-wide-requires
 wide-requires c κs = search needs
 
 returns : tie.Need-returns
-returns c = search (entering, needs)
+returns c = search entering
 
 link-requires : tie.Need-link-requires
 link-requires c κs = search needs
@@ -19,7 +19,7 @@ same-length : tie.Need-same-length
 same-length c = search needs
 
 returns-2 : tie.Need-returns-2
-returns-2 c = search (entering, needs)
+returns-2 c = search entering
 
 pub enter-spec : {M : Type 1} → statement M
 enter-spec =

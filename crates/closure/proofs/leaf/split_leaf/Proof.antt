@@ -7,7 +7,7 @@ adopt-requires : tie.Need-adopt-requires
 adopt-requires c κs = search needs
 
 bear-requires : tie.Need-bear-requires
-bear-requires c κs = search (halving, needs)
+bear-requires c κs = search halving
 
 same-length : tie.Need-same-length
 same-length c = search needs

@@ -10,16 +10,16 @@ rarer-requires : tie.Need-rarer-requires
 rarer-requires c κs = search needs
 
 gather-requires : tie.Need-gather-requires
-gather-requires c κs = search (looks, needs)
+gather-requires c κs = search looks
 
 first-other-requires : tie.Need-first-other-requires
-first-other-requires c κs = search (looks, needs)
+first-other-requires c κs = search looks
 
 same-length : tie.Need-same-length
 same-length c = search needs
 
 returns : tie.Need-returns
-returns c = search (looks, needs)
+returns c = search looks
 
 pub look-spec : {M : Type 1} → statement M
 look-spec =

@@ -10,10 +10,10 @@ same-length : tie.Need-same-length
 same-length c = search needs
 
 returns : tie.Need-returns
-returns c = search (passing, needs)
+returns c = search passing
 
 refine-leaf-requires : tie.Need-refine-leaf-requires
-refine-leaf-requires c κs = search (passing, needs)
+refine-leaf-requires c κs = search passing
 
 same-length-2 : tie.Need-same-length-2
 same-length-2 c = search needs
@@ -25,7 +25,7 @@ same-length-4 : tie.Need-same-length-4
 same-length-4 c = search needs
 
 returns-2 : tie.Need-returns-2
-returns-2 c = search (passing, needs)
+returns-2 c = search passing
 
 pub refine-mark-spec : {M : Type 1} → statement M
 refine-mark-spec =

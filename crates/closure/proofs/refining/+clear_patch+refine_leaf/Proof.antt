@@ -51,7 +51,7 @@ clear-patch-loop-holds : (t : ℕ) → clear-patch-lts.Need-loop-holds (
   refine-leaf-below t,
   refine-leaf.Post,
 ) (clear-patch-at t) clear-patch.Post clear-patch-Inv-loop clear-patch-μ-loop
-clear-patch-loop-holds t c = search (clearing, needs)
+clear-patch-loop-holds t c = search clearing
 
 clear-patch-look-requires : (t : ℕ) → clear-patch-lts.Need-look-requires (
   look-reads.Asked,
@@ -59,7 +59,7 @@ clear-patch-look-requires : (t : ℕ) → clear-patch-lts.Need-look-requires (
   refine-leaf-below t,
   refine-leaf.Post,
 ) (clear-patch-at t) clear-patch.Post clear-patch-Inv-loop clear-patch-μ-loop
-clear-patch-look-requires t c κs = search (clearing, needs)
+clear-patch-look-requires t c κs = search clearing
 
 clear-patch-enum-told : (t : ℕ) → clear-patch-lts.Need-enum-told (
   look-reads.Asked,
@@ -67,7 +67,7 @@ clear-patch-enum-told : (t : ℕ) → clear-patch-lts.Need-enum-told (
   refine-leaf-below t,
   refine-leaf.Post,
 ) (clear-patch-at t) clear-patch.Post clear-patch-Inv-loop clear-patch-μ-loop
-clear-patch-enum-told t c = search (clearing, needs)
+clear-patch-enum-told t c = search clearing
 
 clear-patch-same-length : (t : ℕ) → clear-patch-lts.Need-same-length (
   look-reads.Asked,
@@ -91,7 +91,7 @@ clear-patch-same-length-3 : (t : ℕ) → clear-patch-lts.Need-same-length-3 (
   refine-leaf-below t,
   refine-leaf.Post,
 ) (clear-patch-at t) clear-patch.Post clear-patch-Inv-loop clear-patch-μ-loop
-clear-patch-same-length-3 t c = search (clearing, needs)
+clear-patch-same-length-3 t c = search clearing
 
 clear-patch-returns : (t : ℕ) → clear-patch-lts.Need-returns (
   look-reads.Asked,
@@ -99,7 +99,7 @@ clear-patch-returns : (t : ℕ) → clear-patch-lts.Need-returns (
   refine-leaf-below t,
   refine-leaf.Post,
 ) (clear-patch-at t) clear-patch.Post clear-patch-Inv-loop clear-patch-μ-loop
-clear-patch-returns t c = search (clearing, needs)
+clear-patch-returns t c = search clearing
 
 clear-patch-enum-known-other : (t : ℕ) → clear-patch-lts.Need-enum-known-other (
   look-reads.Asked,
@@ -107,7 +107,7 @@ clear-patch-enum-known-other : (t : ℕ) → clear-patch-lts.Need-enum-known-oth
   refine-leaf-below t,
   refine-leaf.Post,
 ) (clear-patch-at t) clear-patch.Post clear-patch-Inv-loop clear-patch-μ-loop
-clear-patch-enum-known-other t c = search (clearing, needs)
+clear-patch-enum-known-other t c = search clearing
 
 clear-patch-refine-leaf-requires : (t : ℕ) → clear-patch-lts.Need-refine-leaf-requires (
   look-reads.Asked,
@@ -123,7 +123,7 @@ clear-patch-enum-known-step : (t : ℕ) → clear-patch-lts.Need-enum-known-step
   refine-leaf-below t,
   refine-leaf.Post,
 ) (clear-patch-at t) clear-patch.Post clear-patch-Inv-loop clear-patch-μ-loop
-clear-patch-enum-known-step t c = search (clearing, needs)
+clear-patch-enum-known-step t c = search clearing
 
 clear-patch-same-length-4 : (t : ℕ) → clear-patch-lts.Need-same-length-4 (
   look-reads.Asked,
@@ -155,7 +155,7 @@ clear-patch-returns-2 : (t : ℕ) → clear-patch-lts.Need-returns-2 (
   refine-leaf-below t,
   refine-leaf.Post,
 ) (clear-patch-at t) clear-patch.Post clear-patch-Inv-loop clear-patch-μ-loop
-clear-patch-returns-2 t c = search (clearing, needs)
+clear-patch-returns-2 t c = search clearing
 
 clear-patch-enum-known-step-2 : (t : ℕ) → clear-patch-lts.Need-enum-known-step-2 (
   look-reads.Asked,
@@ -163,7 +163,7 @@ clear-patch-enum-known-step-2 : (t : ℕ) → clear-patch-lts.Need-enum-known-st
   refine-leaf-below t,
   refine-leaf.Post,
 ) (clear-patch-at t) clear-patch.Post clear-patch-Inv-loop clear-patch-μ-loop
-clear-patch-enum-known-step-2 t c = search (clearing, needs)
+clear-patch-enum-known-step-2 t c = search clearing
 
 clear-patch-loop-less : (t : ℕ) → clear-patch-lts.Need-loop-less (
   look-reads.Asked,
@@ -171,7 +171,7 @@ clear-patch-loop-less : (t : ℕ) → clear-patch-lts.Need-loop-less (
   refine-leaf-below t,
   refine-leaf.Post,
 ) (clear-patch-at t) clear-patch.Post clear-patch-Inv-loop clear-patch-μ-loop
-clear-patch-loop-less t c = search (clearing, needs)
+clear-patch-loop-less t c = search clearing
 
 clear-patch-loop-again : (t : ℕ) → clear-patch-lts.Need-loop-again (
   look-reads.Asked,
@@ -179,7 +179,7 @@ clear-patch-loop-again : (t : ℕ) → clear-patch-lts.Need-loop-again (
   refine-leaf-below t,
   refine-leaf.Post,
 ) (clear-patch-at t) clear-patch.Post clear-patch-Inv-loop clear-patch-μ-loop
-clear-patch-loop-again t c = search (clearing, needs)
+clear-patch-loop-again t c = search clearing
 
 refine-leaf-clear-patch-requires : (t : ℕ) → refine-leaf-lts.Need-clear-patch-requires (
   clear-patch-below t,
@@ -187,7 +187,7 @@ refine-leaf-clear-patch-requires : (t : ℕ) → refine-leaf-lts.Need-clear-patc
   cut-patch-reads.Asked,
   cut-patch-reads.Learnt,
 ) (refine-leaf-at t) refine-leaf.Post
-refine-leaf-clear-patch-requires t c κs = search (refining, needs)
+refine-leaf-clear-patch-requires t c κs = search refining
 
 refine-leaf-enum-known-cleared : (t : ℕ) → refine-leaf-lts.Need-enum-known-cleared (
   clear-patch-below t,
@@ -195,7 +195,7 @@ refine-leaf-enum-known-cleared : (t : ℕ) → refine-leaf-lts.Need-enum-known-c
   cut-patch-reads.Asked,
   cut-patch-reads.Learnt,
 ) (refine-leaf-at t) refine-leaf.Post
-refine-leaf-enum-known-cleared t c = search (refining, needs)
+refine-leaf-enum-known-cleared t c = search refining
 
 refine-leaf-enum-known-cleared-2 : (t : ℕ) → refine-leaf-lts.Need-enum-known-cleared-2 (
   clear-patch-below t,
@@ -203,7 +203,7 @@ refine-leaf-enum-known-cleared-2 : (t : ℕ) → refine-leaf-lts.Need-enum-known
   cut-patch-reads.Asked,
   cut-patch-reads.Learnt,
 ) (refine-leaf-at t) refine-leaf.Post
-refine-leaf-enum-known-cleared-2 t c = search (refining, needs)
+refine-leaf-enum-known-cleared-2 t c = search refining
 
 refine-leaf-cut-patch-requires : (t : ℕ) → refine-leaf-lts.Need-cut-patch-requires (
   clear-patch-below t,
@@ -219,7 +219,7 @@ refine-leaf-same-length : (t : ℕ) → refine-leaf-lts.Need-same-length (
   cut-patch-reads.Asked,
   cut-patch-reads.Learnt,
 ) (refine-leaf-at t) refine-leaf.Post
-refine-leaf-same-length t c = search (refining, needs)
+refine-leaf-same-length t c = search refining
 
 refine-leaf-same-length-2 : (t : ℕ) → refine-leaf-lts.Need-same-length-2 (
   clear-patch-below t,
@@ -227,7 +227,7 @@ refine-leaf-same-length-2 : (t : ℕ) → refine-leaf-lts.Need-same-length-2 (
   cut-patch-reads.Asked,
   cut-patch-reads.Learnt,
 ) (refine-leaf-at t) refine-leaf.Post
-refine-leaf-same-length-2 t c = search (refining, needs)
+refine-leaf-same-length-2 t c = search refining
 
 refine-leaf-same-length-3 : (t : ℕ) → refine-leaf-lts.Need-same-length-3 (
   clear-patch-below t,
@@ -235,7 +235,7 @@ refine-leaf-same-length-3 : (t : ℕ) → refine-leaf-lts.Need-same-length-3 (
   cut-patch-reads.Asked,
   cut-patch-reads.Learnt,
 ) (refine-leaf-at t) refine-leaf.Post
-refine-leaf-same-length-3 t c = search (refining, needs)
+refine-leaf-same-length-3 t c = search refining
 
 refine-leaf-returns : (t : ℕ) → refine-leaf-lts.Need-returns (
   clear-patch-below t,
@@ -243,7 +243,7 @@ refine-leaf-returns : (t : ℕ) → refine-leaf-lts.Need-returns (
   cut-patch-reads.Asked,
   cut-patch-reads.Learnt,
 ) (refine-leaf-at t) refine-leaf.Post
-refine-leaf-returns t c = search (refining, needs)
+refine-leaf-returns t c = search refining
 
 refine-leaf-same-length-4 : (t : ℕ) → refine-leaf-lts.Need-same-length-4 (
   clear-patch-below t,
@@ -251,7 +251,7 @@ refine-leaf-same-length-4 : (t : ℕ) → refine-leaf-lts.Need-same-length-4 (
   cut-patch-reads.Asked,
   cut-patch-reads.Learnt,
 ) (refine-leaf-at t) refine-leaf.Post
-refine-leaf-same-length-4 t c = search (refining, needs)
+refine-leaf-same-length-4 t c = search refining
 
 refine-leaf-same-length-5 : (t : ℕ) → refine-leaf-lts.Need-same-length-5 (
   clear-patch-below t,
@@ -259,7 +259,7 @@ refine-leaf-same-length-5 : (t : ℕ) → refine-leaf-lts.Need-same-length-5 (
   cut-patch-reads.Asked,
   cut-patch-reads.Learnt,
 ) (refine-leaf-at t) refine-leaf.Post
-refine-leaf-same-length-5 t c = search (refining, needs)
+refine-leaf-same-length-5 t c = search refining
 
 refine-leaf-same-length-6 : (t : ℕ) → refine-leaf-lts.Need-same-length-6 (
   clear-patch-below t,
@@ -267,7 +267,7 @@ refine-leaf-same-length-6 : (t : ℕ) → refine-leaf-lts.Need-same-length-6 (
   cut-patch-reads.Asked,
   cut-patch-reads.Learnt,
 ) (refine-leaf-at t) refine-leaf.Post
-refine-leaf-same-length-6 t c = search (refining, needs)
+refine-leaf-same-length-6 t c = search refining
 
 refine-leaf-returns-2 : (t : ℕ) → refine-leaf-lts.Need-returns-2 (
   clear-patch-below t,
@@ -275,7 +275,7 @@ refine-leaf-returns-2 : (t : ℕ) → refine-leaf-lts.Need-returns-2 (
   cut-patch-reads.Asked,
   cut-patch-reads.Learnt,
 ) (refine-leaf-at t) refine-leaf.Post
-refine-leaf-returns-2 t c = search (refining, needs)
+refine-leaf-returns-2 t c = search refining
 
 pub +clear-patch+refine-leaf-spec : {M : Type 1} → statement M
 +clear-patch+refine-leaf-spec = close μ-clear-patch μ-refine-leaf (λ t. clear-patch-lts.spec (
