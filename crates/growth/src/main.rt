@@ -220,47 +220,51 @@ fn report(points: &[f64], records: &[u32], rows: &[u32], c: Counts, marks: &mut 
     sound(soundness::check(points, records, rows, c));
 }
 
-fn finish(points: &mut [f64], records: &mut [u32], rows: &mut [u32], c: Counts, marks: &mut [u32]) {
-    let d = parts(points, records, rows, c, marks);
-    let e = whole(points, records, rows, d, false, marks);
-    report(points, records, rows, e, marks);
-}
-
-fn evenly(r: Opened, points: &mut [f64], records: &mut [u32], rows: &mut [u32], marks: &mut [u32]) {
-    if let Opened::Done(c) = r {
-        let d = rounds(points, records, rows, c, false, marks, 11);
-        finish(points, records, rows, d, marks);
-        return;
-    }
-    end_line();
-}
-
-fn to_corner(
-    r: Opened,
+// Refined as often as fits, evenly or towards a corner.
+fn grown(
     points: &mut [f64],
     records: &mut [u32],
     rows: &mut [u32],
+    c: Counts,
+    corner: bool,
+    marks: &mut [u32],
+) -> Counts {
+    if corner {
+        return rounds(points, records, rows, c, true, marks, 50);
+    }
+    let d = rounds(points, records, rows, c, false, marks, 11);
+    let e = parts(points, records, rows, d, marks);
+    whole(points, records, rows, e, false, marks)
+}
+
+fn case(
+    points: &mut [f64],
+    records: &mut [u32],
+    rows: &mut [u32],
+    corner: bool,
     marks: &mut [u32],
 ) {
+    let r = open(points, records, rows);
     if let Opened::Done(c) = r {
-        let d = rounds(points, records, rows, c, true, marks, 50);
+        let d = grown(points, records, rows, c, corner, marks);
         report(points, records, rows, d, marks);
         return;
     }
     end_line();
 }
 
-// The tables as arrays, so that `main` proves no length of a list written out.
+// Both cases by one call, so that the memory of refining and that of the check are in one frame, where they share their place. The tables are arrays, so that `main` proves no length of a list written out.
 fn run(
     points: &mut [f64; 30000],
     records: &mut [u32; 20000],
     rows: &mut [u32; 800000],
     marks: &mut [u32; 50000],
 ) {
-    let r = open(points, records, rows);
-    evenly(r, points, records, rows, marks);
-    let s = open(points, records, rows);
-    to_corner(s, points, records, rows, marks);
+    let mut k = 0usize;
+    while k < 2 {
+        case(points, records, rows, k == 1, marks);
+        k += 1;
+    }
 }
 
 fn main() {
