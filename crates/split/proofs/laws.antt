@@ -2,6 +2,7 @@ pub mod Tags
 pub mod Ends
 pub mod Places
 pub mod Children
+pub mod Named
 pub mod Rows
 pub mod Tests
 pub mod Same

@@ -28,6 +28,10 @@ at c (suc zero) = c .v1
 at c (suc (suc zero)) = c .v2
 at c (suc (suc (suc p))) = c .v3
 
+-- vertices place by place
+abbrev pub placewise : {A : Type 0} → (ℕ → A) → Corners A
+placewise f = corners (f 0) (f 1) (f 2) (f 3)
+
 -- the refinement edge is v0 with v at the tag (01, "One split")
 abbrev pub far : {A : Type 0} → Tag → Corners A → A
 far one c = c .v1

@@ -7,7 +7,8 @@ use borrow.Author.Tests.{le-leb, lt-leb, eq-eqb, ne-eqb, eqb-true, eqb-false}
 use lib.Dec.{eqb, leb}
 use Rattle.split.specs.declared.row.Row.{Row}
 use Rattle.split.specs.Split.{Tag, one, two, three, Side, left, right, number, at, after}
-use Rattle.split.specs.Row.{cornersOf, tagOf, below, firstOf, secondOf, childOf}
+use Rattle.split.specs.Row.{cornersOf, tagOf}
+use Rattle.split.proofs.laws.Rows.{child-tag}
 use Rattle.tables.specs.Mesh.{Mesh}
 use Rattle.intake.proofs.laws.Search.{any-has, any-none}
 use Rattle.sound.specs.Sound.{rows, rowOf, place, Grown}
@@ -73,11 +74,6 @@ before-after : (g : Tag) → before (number (after three g)) ≡ number g
 before-after one = refl
 before-after two = refl
 before-after three = refl
-
-child-tag : (s : Side) (p : Row) (own v : ℕ) → childOf s p own v .tag ≡ number (after three (tagOf p))
-unfolding firstOf secondOf below
-child-tag left p own v = refl
-child-tag right p own v = refl
 
 module _ {m : Mesh} {i t : ℕ} (g : Grown m i t) where
   pub parent-tag : (r : ℕ) → t ≤ r → r < rows m → cond (eqb (rowOf m r .tag) 3) 1 (rowOf m r .tag + 1) ≡ number (tagOf (rowOf m (rowOf m r .parent)))

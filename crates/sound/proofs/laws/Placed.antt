@@ -1,19 +1,20 @@
 -- Each row is its element: the same vertices by their names, the same tag, the same depth.
-use mathlib.Core.Path.{_≡_, refl, sym, ap, _∙_}
+use mathlib.Core.Path.{_≡_, sym, ap, _∙_}
 use mathlib.Core.Logic.{inl, inr}
 use Prim.Native.Nat.{ℕ, zero, suc, _≤_, _<_}
 use native.Mathlib.Omega.{arith}
 use lib.Seq.{getD-take}
 use Rattle.split.specs.declared.row.Row.{Row}
-use Rattle.split.specs.Split.{Tag, one, two, three, Corners, at, far, first, second, Side, left, right, child, Distinct}
+use Rattle.split.specs.Split.{three, Corners, at, far, child, Distinct}
 use Rattle.split.specs.Row.{cornersOf, tagOf, edgeOf}
 use Rattle.split.proofs.laws.Places.{le-or-lt}
 use Rattle.split.proofs.laws.Tags.{tag-range}
 use Rattle.split.proofs.laws.Children.{from-parent}
+use Rattle.split.proofs.laws.Named.{named-at, named-far, named-child}
 use Rattle.split.proofs.laws.Rows.{vertices-step, row-step, deeper-is}
 use Rattle.tables.specs.Layout.{noRow}
 use Rattle.tables.specs.Mesh.{Mesh}
-use Rattle.forest.specs.Element.{Name, init, depth, Shape, near, away, middle, below, shapeAt, shape}
+use Rattle.forest.specs.Element.{init, depth, Shape, near, away, middle, below, shapeAt, shape}
 use Rattle.forest.specs.Generation.{gen}
 use Rattle.forest.specs.Invariant.{Fits}
 use Rattle.forest.specs.Shallow.{rootOf}
@@ -25,28 +26,6 @@ use Rattle.sound.specs.Forest.{forestOf, colourIn, largestIn, nameOf, el
 use Rattle.sound.proofs.laws.Afresh.{root-tag, root-depth, root-below, coloured}
 use Rattle.sound.proofs.laws.Names.{joint-oriented, name-initial, name-midpoint}
 use Rattle.sound.proofs.laws.Elements.{grown-shape, grown-root, grown-depth, root-element, child-element}
-
--- ---- corners by their names
-
-named-far : (f : ℕ → Name) (g : Tag) (c : Corners ℕ) → far g (named f c) ≡ f (far g c)
-named-far f one c = refl
-named-far f two c = refl
-named-far f three c = refl
-
-named-child : (f : ℕ → Name) (s : Side) (g : Tag) (c : Corners ℕ) (v : ℕ) → named f (child s g c v) ≡ child s g (named f c) (f v)
-unfolding first second
-named-child f left one c v = refl
-named-child f left two c v = refl
-named-child f left three c v = refl
-named-child f right one c v = refl
-named-child f right two c v = refl
-named-child f right three c v = refl
-
-named-at : (f : ℕ → Name) (c : Corners ℕ) (p : ℕ) → at (named f c) p ≡ f (at c p)
-named-at f c zero = refl
-named-at f c (suc zero) = refl
-named-at f c (suc (suc zero)) = refl
-named-at f c (suc (suc (suc p))) = refl
 
 -- row r and its element, one against the other; a vertex that the row holds is there
 pub record Placed (m : Mesh) (i t r : ℕ) : Type 0 where
@@ -125,7 +104,7 @@ module _ {m : Mesh} {i t : ℕ} (g : Grown m i t) where
     child-placed w = record {
       root = rw (child-element g r k l, grown-root) (w .root);
       corners = ap (λ (x : Shape). x .corners) child-shape
-          ∙ rw (← middle-name w (c .vertex) (c .middle), w .tag, w .corners) (sym (named-child (nameOf m i) (c .side) (tagOf (rowOf m q)) (cornersOf (rowOf m q)) (c .vertex)))
+          ∙ rw (← middle-name w (c .vertex) (c .middle), w .tag, w .corners) (named-child (nameOf m i) (c .side) (tagOf (rowOf m q)) (cornersOf (rowOf m q)) (c .vertex))
           ∙ sym (ap (named (nameOf m i)) child-corners);
       tag = ap (λ (x : Shape). x .tag) child-shape ∙ rw (w .tag) (sym (ap tagOf (c .is) ∙ row-step (c .side) (rowOf m q) q (c .vertex) .tag));
       depth = rw (child-element g r k l, grown-depth) (omega (arith, w, ap (λ (x : Row). x .depth) (c .is), row-step (c .side) (rowOf m q) q (c .vertex) .depth, deeper-is (rowOf m q .depth) (omega (arith, w))));

@@ -3,7 +3,7 @@ use mathlib.Core.Path.{_≡_, refl}
 use Prim.Native.Nat.{ℕ, _+_, _<_}
 use borrow.Author.Tests.{lt-ltb}
 use Rattle.split.specs.declared.row.Row.{Row}
-use Rattle.split.specs.Split.{three, Side, left, right, child, after}
+use Rattle.split.specs.Split.{number, three, Side, left, right, child, after}
 use Rattle.split.specs.Row.{cornersOf, tagOf, below, deeper, firstOf, secondOf, childOf}
 use Rattle.split.proofs.laws.Tags.{tag-number}
 
@@ -18,6 +18,11 @@ pub vertices-step : (s : Side) (r : Row) (own m : ℕ) → cornersOf (childOf s 
 unfolding firstOf secondOf below
 vertices-step left r own m = refl
 vertices-step right r own m = refl
+
+pub child-tag : (s : Side) (r : Row) (own m : ℕ) → childOf s r own m .tag ≡ number (after three (tagOf r))
+unfolding firstOf secondOf below
+child-tag left r own m = refl
+child-tag right r own m = refl
 
 pub row-step : (s : Side) (r : Row) (own m : ℕ) → Step r own (childOf s r own m)
 unfolding firstOf secondOf below
