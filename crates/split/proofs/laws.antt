@@ -1,7 +1,9 @@
 pub mod Tags
 pub mod Ends
 pub mod Places
+pub mod ByTag
 pub mod Children
+pub mod SplitTable
 pub mod Named
 pub mod Rows
 pub mod Tests

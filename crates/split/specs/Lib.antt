@@ -1,4 +1,5 @@
 pub mod Split
+pub mod SplitTable
 pub mod Row
 pub mod Midpoint
 pub mod Exact

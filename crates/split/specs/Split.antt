@@ -1,6 +1,8 @@
 -- One split (01, "One split"; 000, Algorithm 1), over any kind A of vertex name: numbers in the tables, abstract names in the theory.
 use mathlib.Core.Path.{_≡_}
+use mathlib.Core.Bool.{cond}
 use Prim.Native.Nat.{ℕ, zero, suc, _≤_}
+use lib.Dec.{eqb, ltb}
 
 -- the tag γ of a simplex; the tag of a root is the dimension, so the largest tag also tells the dimension (000, Algorithm 1)
 pub data Tag : Type 0 where
@@ -38,17 +40,17 @@ far one c = c .v1
 far two c = c .v2
 far three c = c .v3
 
--- the first child, m being the midpoint of the edge (01, "One split", second column)
-unfoldable pub first : {A : Type 0} → Tag → Corners A → A → Corners A
-first three c m = corners (c .v0) (c .v1) (c .v2) m
-first two c m = corners (c .v0) (c .v1) m (c .v3)
-first one c m = corners (c .v0) m (c .v2) (c .v3)
+-- what a child has at place p, where the parent's tag is γ: one vertex below the tag, one at the tag, one above it (000, Algorithm 1)
+abbrev pub byTag : {A : Type 0} → ℕ → ℕ → A → A → A → A
+byTag p γ low new high = cond (ltb p γ) low (cond (eqb p γ) new high)
 
--- the second child (01, "One split", third column)
+-- the first child [v0, .., v(γ-1), m, v(γ+1), .., vn], m being the midpoint of the edge (000, Algorithm 1, T1)
+unfoldable pub first : {A : Type 0} → Tag → Corners A → A → Corners A
+first γ c m = placewise (λ p. byTag p (number γ) (at c p) m (at c p))
+
+-- the second child [v1, .., vγ, m, v(γ+1), .., vn] (000, Algorithm 1, T2)
 unfoldable pub second : {A : Type 0} → Tag → Corners A → A → Corners A
-second three c m = corners (c .v1) (c .v2) (c .v3) m
-second two c m = corners (c .v1) (c .v2) m (c .v3)
-second one c m = corners (c .v1) m (c .v2) (c .v3)
+second γ c m = placewise (λ p. byTag p (number γ) (at c (suc p)) m (at c p))
 
 -- which child: an element below a root is told by its sides
 pub data Side : Type 0 where
@@ -63,7 +65,7 @@ abbrev pub lacked : Side → Tag → ℕ
 lacked left g = number g
 lacked right g = 0
 
--- the children's tag, where the largest tag is `top` (01, "One split", last column, with `top` three; 000, Algorithm 1, "new tag")
+-- the children's tag, where the largest tag is `top`: γ - 1 if γ ≥ 2, and else `top` (000, Algorithm 1, "new tag")
 abbrev pub after : Tag → Tag → Tag
 after top three = two
 after top two = one

@@ -1,9 +1,15 @@
 // A tagged row by value: its refinement edge and its two children (Algorithm 1).
 
 ghost use mathlib.Core.Path.{_≡_};
-ghost use Rattle.split.specs.Split.{far, corners, number, after, three};
+ghost use mathlib.Core.Bool.{cond};
+ghost use Prim.Native.Nat.{_-_};
+ghost use lib.Dec.{leb};
+ghost use Rattle.split.specs.Split.{number, corners, far, byTag};
 ghost use Rattle.split.specs.Row as row;
-ghost use Rattle.split.specs.Row.{cornersOf, readTag, edgeOf, below, withChild, sameCorners, sameRow, deeper, firstOf, secondOf};
+ghost use Rattle.split.specs.Row.{cornersOf, readTag, tagOf, edgeOf, below, withChild, sameCorners, sameRow, deeper, firstOf, secondOf};
+
+// The tag of a root, which is the largest: the dimension.
+const TOP: u32 = 3;
 
 pub struct Row {
     pub v0: u32,
@@ -53,16 +59,24 @@ fn next_depth(d: u32) -> u32
     if d < 4294967295 { d + 1 } else { d }
 }
 
-fn next_tag(t: u32) -> u32
-    ensures { λ e. ⌜ e ≡ number (after three (readTag t)) ⌝ }
+// The tag of a row as it is read: a number outside 1 to 3 is read as 3.
+fn tag(r: Row) -> u32
+    ensures { λ g. ⌜ g ≡ number (tagOf r) ⌝ }
 {
-    if t == 1 {
-        return 3;
-    }
-    if t == 2 {
+    if r.tag == 1 {
         return 1;
     }
-    2
+    if r.tag == 2 {
+        return 2;
+    }
+    3
+}
+
+// Algorithm 1, "new tag", where the largest tag is `top`.
+fn next_tag(tag: u32, top: u32) -> u32
+    ensures { λ e. ⌜ e ≡ cond (leb 2 tag) (tag - 1) top ⌝ }
+{
+    if tag >= 2 { tag - 1 } else { top }
 }
 
 // The child of row number `own` that has these four vertices.
@@ -74,35 +88,48 @@ fn child_at(r: Row, own: u32, v0: u32, v1: u32, v2: u32, v3: u32) -> Row
         v1,
         v2,
         v3,
-        tag: next_tag(r.tag),
+        tag: next_tag(tag(r), TOP),
         parent: own,
         child: 0,
         depth: next_depth(r.depth),
     }
 }
 
+// What a child has at a place: one vertex below the tag, one at the tag, one above it.
+fn by_tag(place: u32, tag: u32, low: u32, new: u32, high: u32) -> u32
+    ensures { λ v. ⌜ v ≡ byTag place tag low new high ⌝ }
+{
+    if place < tag {
+        return low;
+    }
+    if place == tag {
+        return new;
+    }
+    high
+}
+
+// [v0, .., v(g-1), m, v(g+1), .., v3]
 pub fn first(r: Row, own: u32, m: u32) -> Row
     ensures { λ c. ⌜ c ≡ firstOf r own m ⌝ }
 {
-    if r.tag == 1 {
-        return child_at(r, own, r.v0, m, r.v2, r.v3);
-    }
-    if r.tag == 2 {
-        return child_at(r, own, r.v0, r.v1, m, r.v3);
-    }
-    child_at(r, own, r.v0, r.v1, r.v2, m)
+    let g = tag(r);
+    let a0 = by_tag(0, g, r.v0, m, r.v0);
+    let a1 = by_tag(1, g, r.v1, m, r.v1);
+    let a2 = by_tag(2, g, r.v2, m, r.v2);
+    let a3 = by_tag(3, g, r.v3, m, r.v3);
+    child_at(r, own, a0, a1, a2, a3)
 }
 
+// [v1, .., vg, m, v(g+1), .., v3]; place 3 is below no tag.
 pub fn second(r: Row, own: u32, m: u32) -> Row
     ensures { λ c. ⌜ c ≡ secondOf r own m ⌝ }
 {
-    if r.tag == 1 {
-        return child_at(r, own, r.v1, m, r.v2, r.v3);
-    }
-    if r.tag == 2 {
-        return child_at(r, own, r.v1, r.v2, m, r.v3);
-    }
-    child_at(r, own, r.v1, r.v2, r.v3, m)
+    let g = tag(r);
+    let b0 = by_tag(0, g, r.v1, m, r.v0);
+    let b1 = by_tag(1, g, r.v2, m, r.v1);
+    let b2 = by_tag(2, g, r.v3, m, r.v2);
+    let b3 = by_tag(3, g, r.v3, m, r.v3);
+    child_at(r, own, b0, b1, b2, b3)
 }
 
 // A root of these four vertices, whose own number is `own`.

@@ -5,19 +5,15 @@ use mathlib.Core.Logic.{_⊎_, inl, inr}
 use Prim.Native.Nat.{ℕ, zero, suc, _≤_, _<_}
 use native.Mathlib.Nat.{le-of-lt}
 use native.Mathlib.Omega.{arith}
-use Rattle.split.specs.Split.{Tag, one, two, three, number, Corners, at, far, first, second, Side, left, right, child, lacked, Holds, Distinct}
-use Rattle.split.proofs.laws.Places.{Against, less, equal, more, against, le-or-lt, under, over}
+use Rattle.split.specs.Split.{Tag, one, two, three, number, Corners, at, far, byTag, first, second, Side, left, right, child, lacked, Holds, Distinct}
+use Rattle.split.proofs.laws.Tags.{tag-range}
+use Rattle.split.proofs.laws.Places.{Against, less, equal, more, against, le-or-lt}
+use Rattle.split.proofs.laws.ByTag.{below-tag, at-tag, above-tag, placewise-at}
 
 -- where the vertex at a place below the tag comes from
 abbrev pub source : Side → ℕ → ℕ
 source left p = p
 source right p = suc p
-
-abbrev Low : {A : Type 0} → Corners A → A → Side → Tag → ℕ → Type 0
-Low c m s g p = at (child s g c m) p ≡ at c (source s p)
-
-abbrev High : {A : Type 0} → Corners A → A → Side → Tag → ℕ → Type 0
-High c m s g p = at (child s g c m) p ≡ at c p
 
 pub far-at : {A : Type 0} (c : Corners A) (g : Tag) → at c (number g) ≡ far g c
 far-at c one = refl
@@ -27,32 +23,20 @@ far-at c three = refl
 module _ {A : Type 0} (c : Corners A) (m : A) where
   -- ---- place by place
 
-  pub at-new : (s : Side) (g : Tag) → at (child s g c m) (number g) ≡ m
+  -- both children at once, by the place that a vertex below the tag comes from
+  pub at-place : (s : Side) (g : Tag) (p : ℕ) → p ≤ 3 → at (child s g c m) p ≡ byTag p (number g) (at c (source s p)) m (at c p)
   unfolding first second
-  at-new left one = refl
-  at-new left two = refl
-  at-new left three = refl
-  at-new right one = refl
-  at-new right two = refl
-  at-new right three = refl
+  at-place left g p h = placewise-at (λ q. byTag q (number g) (at c q) m (at c q)) p h
+  at-place right g p h = placewise-at (λ q. byTag q (number g) (at c (suc q)) m (at c q)) p h
+
+  pub at-new : (s : Side) (g : Tag) → at (child s g c m) (number g) ≡ m
+  at-new s g = at-place s g (number g) (tag-range g .1) ∙ at-tag {p = number g} {g = number g} _ _ _ refl
 
   pub at-low : (s : Side) (g : Tag) (p : ℕ) → p < number g → at (child s g c m) p ≡ at c (source s p)
-  unfolding first second
-  at-low left one = under one (Low c m left one) refl
-  at-low left two = under two (Low c m left two) (refl, refl)
-  at-low left three = under three (Low c m left three) (refl, refl, refl)
-  at-low right one = under one (Low c m right one) refl
-  at-low right two = under two (Low c m right two) (refl, refl)
-  at-low right three = under three (Low c m right three) (refl, refl, refl)
+  at-low s g p h = at-place s g p (omega (arith, tag-range g)) ∙ below-tag _ _ _ h
 
   pub at-high : (s : Side) (g : Tag) (p : ℕ) → number g < p → p ≤ 3 → at (child s g c m) p ≡ at c p
-  unfolding first second
-  at-high left one = over one (High c m left one) (refl, refl)
-  at-high left two = over two (High c m left two) refl
-  at-high left three = over three (High c m left three) tt
-  at-high right one = over one (High c m right one) (refl, refl)
-  at-high right two = over two (High c m right two) refl
-  at-high right three = over three (High c m right three) tt
+  at-high s g p h l = at-place s g p l ∙ above-tag _ _ _ (le-of-lt h) (λ e. omega arith)
 
 -- ---- as sets of vertices
 

@@ -20,16 +20,11 @@ pub data Against (a b : ℕ) : Type 0 where
 pub against : (a b : ℕ) → Against a b
 against a b = elim (le-or-lt a b) [ inl h ↦ elim (eq-or-lt-of-le h) [ inl e ↦ equal e | inr l ↦ less l ] | inr h ↦ more h ]
 
--- what is to be shown of the places below a tag, and of those above it up to 3
+-- what is to be shown of the places below a tag
 abbrev Below : Tag → (ℕ → Type 0) → Type 0
 Below one P = P 0
 Below two P = P 0 × P 1
 Below three P = P 0 × P 1 × P 2
-
-abbrev Above : Tag → (ℕ → Type 0) → Type 0
-Above one P = P 2 × P 3
-Above two P = P 3
-Above three P = Unit
 
 pub under : (g : Tag) (P : ℕ → Type 0) → Below g P → (p : ℕ) → p < number g → P p
 under one P b zero h = b
@@ -41,16 +36,3 @@ under three P b zero h = b .0
 under three P b (suc zero) h = b .1
 under three P b (suc (suc zero)) h = b .2
 under three P b (suc (suc (suc p))) h = absurd (omega arith)
-
-pub over : (g : Tag) (P : ℕ → Type 0) → Above g P → (p : ℕ) → number g < p → p ≤ 3 → P p
-over one P b zero h k = absurd (omega arith)
-over one P b (suc zero) h k = absurd (omega arith)
-over one P b (suc (suc zero)) h k = b .0
-over one P b (suc (suc (suc zero))) h k = b .1
-over one P b (suc (suc (suc (suc p)))) h k = absurd (omega arith)
-over two P b zero h k = absurd (omega arith)
-over two P b (suc zero) h k = absurd (omega arith)
-over two P b (suc (suc zero)) h k = absurd (omega arith)
-over two P b (suc (suc (suc zero))) h k = b
-over two P b (suc (suc (suc (suc p)))) h k = absurd (omega arith)
-over three P b p h k = absurd (omega arith)
