@@ -108,7 +108,7 @@ fn by_tag(place: u32, tag: u32, low: u32, new: u32, high: u32) -> u32
     high
 }
 
-// [v0, .., v(g-1), m, v(g+1), .., v3]
+// Algorithm 1, T1: [v0, .., v(g-1), m, v(g+1), .., v3].
 pub fn first(r: Row, own: u32, m: u32) -> Row
     ensures { λ c. ⌜ c ≡ firstOf r own m ⌝ }
 {
@@ -120,7 +120,7 @@ pub fn first(r: Row, own: u32, m: u32) -> Row
     child_at(r, own, a0, a1, a2, a3)
 }
 
-// [v1, .., vg, m, v(g+1), .., v3]; place 3 is below no tag.
+// Algorithm 1, T2: [v1, .., vg, m, v(g+1), .., v3]. Place 3 is below no tag.
 pub fn second(r: Row, own: u32, m: u32) -> Row
     ensures { λ c. ⌜ c ≡ secondOf r own m ⌝ }
 {

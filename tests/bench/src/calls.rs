@@ -53,3 +53,14 @@ pub fn list(mesh: &Mesh) -> Times {
     let model = |listing| listed::<Model>(mesh, listing);
     race(lent, [&lampethor, &model])
 }
+
+fn halves<S: Side>(mesh: &Mesh, mut children: Vec<u32>) -> Vec<u32> {
+    S::split(mesh, &mut children);
+    children
+}
+
+pub fn split(mesh: &Mesh) -> Times {
+    let lampethor = |children| halves::<Lampethor>(mesh, children);
+    let model = |children| halves::<Model>(mesh, children);
+    race(|| vec![1; 16 * mesh.counts.1], [&lampethor, &model])
+}

@@ -32,16 +32,39 @@ pub fn case(input: &Input, rounds: usize, share: u64) -> Case {
     }
 }
 
-/// One number in `share`, chosen by the generator splitmix64 and the same in every run.
-fn some_of(mut list: Vec<u32>, share: u64) -> Vec<u32> {
-    let mut state = 1u64;
-    list.retain(|_| {
-        state = state.wrapping_add(0x9e37_79b9_7f4a_7c15);
-        let z = (state ^ state >> 30).wrapping_mul(0xbf58_476d_1ce4_e5b9);
+/// The generator splitmix64, the same in every run.
+struct Random(u64);
+
+impl Random {
+    fn next(&mut self) -> u64 {
+        self.0 = self.0.wrapping_add(0x9e37_79b9_7f4a_7c15);
+        let z = (self.0 ^ self.0 >> 30).wrapping_mul(0xbf58_476d_1ce4_e5b9);
         let z = (z ^ z >> 27).wrapping_mul(0x94d0_49bb_1331_11eb);
-        (z ^ z >> 31) % share == 0
-    });
+        z ^ z >> 31
+    }
+}
+
+/// One number in `share`, chosen at random.
+fn some_of(mut list: Vec<u32>, share: u64) -> Vec<u32> {
+    let mut random = Random(1);
+    list.retain(|_| random.next() % share == 0);
     list
+}
+
+/// A mesh of no meaning: rows of any numbers, but for a tag of 1 to 3 and a depth that has a next.
+pub fn any_rows(count: usize) -> Mesh {
+    let mut mesh = Mesh::lent((0, count));
+    let mut random = Random(1);
+    for (place, number) in mesh.rows.iter_mut().enumerate() {
+        let any = random.next() as u32;
+        *number = match place % 8 {
+            4 => 1 + any % 3,
+            7 => any % u32::MAX,
+            _ => any,
+        };
+    }
+    mesh.counts.1 = count;
+    mesh
 }
 
 /// The list cut into a hundred, of which some are empty where there are fewer marks.

@@ -7,7 +7,7 @@ mod race;
 mod report;
 mod sides;
 
-use cases::{case, hundred, Case};
+use cases::{any_rows, case, hundred, Case};
 use mesh::{grid, hub};
 use report::Report;
 
@@ -23,6 +23,8 @@ const OPENED: [[usize; 3]; 5] = [
 const ALL: [[usize; 3]; 5] = [[3, 3, 4], [4, 5, 5], [6, 7, 7], [9, 10, 10], [14, 14, 15]];
 /// Grids refined twice, of which a tenth of the leaves is marked; about 1,300 to 94,600 rows then.
 const TENTH: [[usize; 3]; 5] = [[2, 2, 3], [3, 3, 3], [4, 4, 4], [5, 6, 6], [8, 8, 8]];
+/// Rows of any numbers.
+const ANY: usize = 100_000;
 /// Squares along a side of the plane under the hub: 20,000 elements.
 const HUB: usize = 100;
 /// Lampethor's working memory lies on the stack, up to 4 MB.
@@ -72,6 +74,15 @@ fn refined(report: &mut Report) {
     for Case { after, .. } in &tenths {
         report.line("list a refined grid", after.counts.1, calls::list(after));
     }
+    for Case { after, .. } in &tenths {
+        report.line(
+            "split each row of a refined grid",
+            after.counts.1,
+            calls::split(after),
+        );
+    }
+    let any = any_rows(ANY);
+    report.line("split rows of any numbers", ANY, calls::split(&any));
 }
 
 /// A vertex in all elements.

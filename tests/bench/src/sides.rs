@@ -19,6 +19,13 @@ pub trait Side {
     /// Answers the number of splits.
     fn refine(mesh: &mut Mesh, marks: &[u32]) -> Result<usize, Refusal>;
     fn list(mesh: &Mesh, listing: &mut Listing) -> Result<(), Refusal>;
+    /// The two children of each row, at a midpoint of its own, in a table with room for them.
+    fn split(mesh: &Mesh, children: &mut [u32]);
+}
+
+/// A number that no vertex of the mesh has, for the midpoint of row k.
+fn midpoint(mesh: &Mesh, k: usize) -> u32 {
+    (mesh.counts.0 + k) as u32
 }
 
 pub struct Lampethor;
@@ -77,6 +84,16 @@ impl Side for Lampethor {
         }
         Ok(())
     }
+
+    fn split(mesh: &Mesh, children: &mut [u32]) {
+        use split::row::{first, second};
+        use tables::row::{read, write};
+        for k in 0..mesh.counts.1 {
+            let (row, own, m) = (read(&mesh.rows, k), k as u32, midpoint(mesh, k));
+            write(children, 2 * k, first(row, own, m));
+            write(children, 2 * k + 1, second(row, own, m));
+        }
+    }
 }
 
 pub struct Model;
@@ -128,5 +145,14 @@ impl Side for Model {
         let (rows, levels) = (&mut listing.rows, &mut listing.levels);
         listing.number = model::leaves(tables, counts, rows, levels).map_err(refused)?;
         Ok(())
+    }
+
+    fn split(mesh: &Mesh, children: &mut [u32]) {
+        let (tables, counts) = view(mesh);
+        for k in 0..counts.rows {
+            let [first, second] = tables.row(k).children(k as u32, midpoint(mesh, k));
+            children[16 * k..][..8].copy_from_slice(&first.numbers());
+            children[16 * k + 8..][..8].copy_from_slice(&second.numbers());
+        }
     }
 }
