@@ -4,8 +4,8 @@ pub mod Places
 pub mod ByTag
 pub mod Children
 pub mod SplitTable
-pub mod Named
 pub mod Rows
+pub mod Named
 pub mod Tests
 pub mod Same
 pub mod Nan

@@ -60,7 +60,7 @@ fn next_depth(d: u32) -> u32
 }
 
 // The tag of a row as it is read: a number outside 1 to 3 is read as 3.
-fn tag(r: Row) -> u32
+fn tag_of(r: Row) -> u32
     ensures { λ g. ⌜ g ≡ number (tagOf r) ⌝ }
 {
     if r.tag == 1 {
@@ -88,7 +88,7 @@ fn child_at(r: Row, own: u32, v0: u32, v1: u32, v2: u32, v3: u32) -> Row
         v1,
         v2,
         v3,
-        tag: next_tag(tag(r), TOP),
+        tag: next_tag(tag_of(r), TOP),
         parent: own,
         child: 0,
         depth: next_depth(r.depth),
@@ -112,7 +112,7 @@ fn by_tag(place: u32, tag: u32, low: u32, new: u32, high: u32) -> u32
 pub fn first(r: Row, own: u32, m: u32) -> Row
     ensures { λ c. ⌜ c ≡ firstOf r own m ⌝ }
 {
-    let g = tag(r);
+    let g = tag_of(r);
     let a0 = by_tag(0, g, r.v0, m, r.v0);
     let a1 = by_tag(1, g, r.v1, m, r.v1);
     let a2 = by_tag(2, g, r.v2, m, r.v2);
@@ -124,7 +124,7 @@ pub fn first(r: Row, own: u32, m: u32) -> Row
 pub fn second(r: Row, own: u32, m: u32) -> Row
     ensures { λ c. ⌜ c ≡ secondOf r own m ⌝ }
 {
-    let g = tag(r);
+    let g = tag_of(r);
     let b0 = by_tag(0, g, r.v1, m, r.v0);
     let b1 = by_tag(1, g, r.v2, m, r.v1);
     let b2 = by_tag(2, g, r.v3, m, r.v2);

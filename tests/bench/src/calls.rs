@@ -62,5 +62,5 @@ fn halves<S: Side>(mesh: &Mesh, mut children: Vec<u32>) -> Vec<u32> {
 pub fn split(mesh: &Mesh) -> Times {
     let lampethor = |children| halves::<Lampethor>(mesh, children);
     let model = |children| halves::<Model>(mesh, children);
-    race(|| vec![1; 16 * mesh.counts.1], [&lampethor, &model])
+    race(|| vec![1; 2 * mesh.rows.len()], [&lampethor, &model])
 }

@@ -3,6 +3,7 @@
 
 use crate::mesh::{Counts, Input, Mesh};
 use crate::sides::{Model, Side};
+use tables::layout::ROW;
 
 const MOST: Counts = (20_000, 100_000);
 
@@ -57,7 +58,7 @@ pub fn any_rows(count: usize) -> Mesh {
     let mut random = Random(1);
     for (place, number) in mesh.rows.iter_mut().enumerate() {
         let any = random.next() as u32;
-        *number = match place % 8 {
+        *number = match place % ROW {
             4 => 1 + any % 3,
             7 => any % u32::MAX,
             _ => any,

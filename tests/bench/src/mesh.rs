@@ -1,5 +1,7 @@
 //! A mesh in lent tables, and meshes to open: grids of cubes, and a hub.
 
+use tables::layout::ROW;
+
 /// Vertices and rows.
 pub type Counts = (usize, usize);
 
@@ -35,7 +37,7 @@ impl Mesh {
         Mesh {
             points: vec![1.0; 3 * room.0],
             records: vec![1; 2 * room.0],
-            rows: vec![1; 8 * room.1],
+            rows: vec![1; ROW * room.1],
             counts: (0, 0),
         }
     }
@@ -44,12 +46,12 @@ impl Mesh {
     pub fn with_room(mut self, room: Counts) -> Mesh {
         self.points.resize(3 * room.0, 0.0);
         self.records.resize(2 * room.0, 0);
-        self.rows.resize(8 * room.1, 0);
+        self.rows.resize(ROW * room.1, 0);
         self
     }
 
     pub fn leaves(&self) -> Vec<u32> {
-        let leaf = |&r: &u32| self.rows[8 * r as usize + 6] == 0;
+        let leaf = |&r: &u32| self.rows[ROW * r as usize + 6] == 0;
         (0..self.counts.1 as u32).filter(leaf).collect()
     }
 }

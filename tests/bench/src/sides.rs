@@ -1,6 +1,7 @@
 //! The two sides, called and answering in the same way.
 
 use crate::mesh::{Input, Mesh};
+use tables::layout::ROW;
 
 /// Number and place of a refusal.
 pub type Refusal = (u32, usize);
@@ -23,7 +24,7 @@ pub trait Side {
     fn split(mesh: &Mesh, children: &mut [u32]);
 }
 
-/// A number that no vertex of the mesh has, for the midpoint of row k.
+/// A number for the midpoint of row k; no vertex that the mesh counts has it.
 fn midpoint(mesh: &Mesh, k: usize) -> u32 {
     (mesh.counts.0 + k) as u32
 }
@@ -151,8 +152,9 @@ impl Side for Model {
         let (tables, counts) = view(mesh);
         for k in 0..counts.rows {
             let [first, second] = tables.row(k).children(k as u32, midpoint(mesh, k));
-            children[16 * k..][..8].copy_from_slice(&first.numbers());
-            children[16 * k + 8..][..8].copy_from_slice(&second.numbers());
+            for (place, row) in [(2 * k, first), (2 * k + 1, second)] {
+                children[ROW * place..][..ROW].copy_from_slice(&row.numbers());
+            }
         }
     }
 }

@@ -5,7 +5,7 @@ use mathlib.Core.Logic.{_⊎_, inl, inr}
 use Prim.Native.Nat.{ℕ, zero, suc, _≤_, _<_}
 use native.Mathlib.Nat.{le-of-lt}
 use native.Mathlib.Omega.{arith}
-use Rattle.split.specs.Split.{Tag, one, two, three, number, Corners, at, far, byTag, first, second, Side, left, right, child, lacked, Holds, Distinct}
+use Rattle.split.specs.Split.{Tag, one, two, three, number, Corners, at, placewise, far, byTag, first, second, Side, left, right, child, lacked, Holds, Distinct}
 use Rattle.split.proofs.laws.Tags.{tag-range}
 use Rattle.split.proofs.laws.Places.{Against, less, equal, more, against, le-or-lt}
 use Rattle.split.proofs.laws.ByTag.{below-tag, at-tag, above-tag, placewise-at}
@@ -24,10 +24,13 @@ module _ {A : Type 0} (c : Corners A) (m : A) where
   -- ---- place by place
 
   -- both children at once, by the place that a vertex below the tag comes from
-  pub at-place : (s : Side) (g : Tag) (p : ℕ) → p ≤ 3 → at (child s g c m) p ≡ byTag p (number g) (at c (source s p)) m (at c p)
+  pub child-places : (s : Side) (g : Tag) → child s g c m ≡ placewise (λ p. byTag p (number g) (at c (source s p)) m (at c p))
   unfolding first second
-  at-place left g p h = placewise-at (λ q. byTag q (number g) (at c q) m (at c q)) p h
-  at-place right g p h = placewise-at (λ q. byTag q (number g) (at c (suc q)) m (at c q)) p h
+  child-places left g = refl
+  child-places right g = refl
+
+  pub at-place : (s : Side) (g : Tag) (p : ℕ) → p ≤ 3 → at (child s g c m) p ≡ byTag p (number g) (at c (source s p)) m (at c p)
+  at-place s g p h = rw (child-places s g) (placewise-at (λ q. byTag q (number g) (at c (source s q)) m (at c q)) p h)
 
   pub at-new : (s : Side) (g : Tag) → at (child s g c m) (number g) ≡ m
   at-new s g = at-place s g (number g) (tag-range g .1) ∙ at-tag {p = number g} {g = number g} _ _ _ refl

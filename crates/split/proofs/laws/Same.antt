@@ -5,8 +5,9 @@ use Prim.Native.Nat.{ℕ}
 use borrow.Author.Tests.{eqb-true, eq-eqb}
 use lib.Dec.{eqb}
 use Rattle.split.specs.declared.row.Row.{Row}
-use Rattle.split.specs.Split.{Corners, corners, Side, left, right}
-use Rattle.split.specs.Row.{cornersOf, edgeOf, below, withChild, childless, sameCorners, sameRow, firstOf, secondOf, childOf}
+use Rattle.split.specs.Split.{Corners, corners, Side, child}
+use Rattle.split.specs.Row.{cornersOf, tagOf, edgeOf, below, withChild, childless, sameCorners, sameRow, childOf}
+use Rattle.split.proofs.laws.Rows.{child-below}
 use Rattle.split.proofs.laws.Tests.{both}
 
 -- a leaf is what it is but for its first child
@@ -14,9 +15,8 @@ pub leaf-childless : (r : Row) → r .child ≡ 0 → childless r ≡ r
 leaf-childless r e = ap (withChild r) (sym e)
 
 pub child-leaf : (s : Side) (r : Row) (own m : ℕ) → childless (childOf s r own m) ≡ childOf s r own m
-unfolding firstOf secondOf below
-child-leaf left r own m = refl
-child-leaf right r own m = refl
+unfolding below
+child-leaf s r own m = rw (child-below s r own m)
 
 -- neither the edge nor the children depend on the first child
 pub edge-childless : (a b : Row) → childless a ≡ childless b → edgeOf a ≡ edgeOf b
@@ -24,9 +24,8 @@ unfolding edgeOf
 edge-childless a b e = ap edgeOf e
 
 pub child-childless : (s : Side) (a b : Row) (own m : ℕ) → childless a ≡ childless b → childOf s a own m ≡ childOf s b own m
-unfolding firstOf secondOf below
-child-childless left a b own m e = ap (λ (r : Row). firstOf r own m) e
-child-childless right a b own m e = ap (λ (r : Row). secondOf r own m) e
+unfolding below
+child-childless s a b own m e = rw (child-below s a own m, child-below s b own m) (ap (λ (r : Row). below r own (child s (tagOf r) (cornersOf r) m)) e)
 
 -- ---- the comparison says yes exactly where the two are the same but for the first child
 

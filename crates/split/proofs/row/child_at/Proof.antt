@@ -4,8 +4,8 @@ use borrow.Author.Needs.{needs}
 use Rattle.split.proofs.row.child_at.Statement.{statement}
 use Rattle.split.proofs.row.child_at.Tie as tie
 
-tag-requires : tie.Need-tag-requires
-tag-requires c κs = search needs
+tag-of-requires : tie.Need-tag-of-requires
+tag-of-requires c κs = search needs
 
 next-tag-requires : tie.Need-next-tag-requires
 next-tag-requires c κs = search needs
@@ -15,7 +15,7 @@ next-depth-requires c κs = search needs
 
 returns : tie.Need-returns
 unfolding below
-returns c = cc (after-number _ _ (c .before .before .tag .ensures))
+returns c = cc (after-number _ _ (c .before .before .tag-of .ensures))
 
 pub child-at-spec : {M : Type 1} → statement M
-child-at-spec = tie.close (tie.spec tag-requires next-tag-requires next-depth-requires returns)
+child-at-spec = tie.close (tie.spec tag-of-requires next-tag-requires next-depth-requires returns)

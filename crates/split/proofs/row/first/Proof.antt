@@ -4,8 +4,8 @@ use borrow.Author.Needs.{needs}
 use Rattle.split.proofs.row.first.Statement.{statement}
 use Rattle.split.proofs.row.first.Tie as tie
 
-tag-requires : tie.Need-tag-requires
-tag-requires c κs = search needs
+tag-of-requires : tie.Need-tag-of-requires
+tag-of-requires c κs = search needs
 
 by-tag-requires : tie.Need-by-tag-requires
 by-tag-requires c κs = search needs
@@ -26,4 +26,4 @@ returns : tie.Need-returns
 returns c = search (by-places left)
 
 pub first-spec : {M : Type 1} → statement M
-first-spec = tie.close (tie.spec tag-requires by-tag-requires by-tag-requires-2 by-tag-requires-3 by-tag-requires-4 child-at-requires returns)
+first-spec = tie.close (tie.spec tag-of-requires by-tag-requires by-tag-requires-2 by-tag-requires-3 by-tag-requires-4 child-at-requires returns)
