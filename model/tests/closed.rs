@@ -200,3 +200,32 @@ fn order_and_grouping_do_not_matter() {
         assert_eq!(split_set(&together), split_set(&apart));
     }
 }
+
+/// All elements of depth below d.
+fn below(roots: usize, d: usize) -> BTreeSet<Element> {
+    let sides = |bits: usize, depth: usize| (0..depth).map(move |at| bits >> at & 1 == 1).collect();
+    let of = |root| {
+        (0..d).flat_map(move |depth| (0..1 << depth).map(move |bits| (root, sides(bits, depth))))
+    };
+    (0..roots).flat_map(of).collect()
+}
+
+fn closed_below(mesh: &Mesh, d: usize) -> bool {
+    let set = below(mesh.counts.rows, d);
+    Forest::new(mesh).smallest(&set) == set
+}
+
+#[test]
+fn depth_below_a_multiple_of_three() {
+    let mut random = Random(4);
+    for _ in 0..100 {
+        let vertices = 4 + random.below(6);
+        let elements = random_elements(&mut random, vertices, 12);
+        let mesh = opened(vertices, &elements, (vertices, elements.len()));
+        assert!(closed_below(&mesh, 3) && closed_below(&mesh, 6));
+    }
+    let w7 = opened(5, &[[0, 1, 2, 3], [0, 1, 3, 4], [0, 1, 2, 4]], (5, 3));
+    for d in 0..=9 {
+        assert_eq!(closed_below(&w7, d), d % 3 == 0);
+    }
+}

@@ -54,7 +54,7 @@ pub data OnRoom (E : Engine) (t : Lent) (c : Counts) (i roots : ℕ) (marks : Li
   outgrown : Outgrows (roomIn t) (meshOf t c) i roots marks → Refuses t 2 0 r t' → OnRoom E t c i roots marks r t'
   fits : (Outgrows (roomIn t) (meshOf t c) i roots marks → ⊥) → Accepts E t c marks r t' → OnRoom E t c i roots marks r t'
 
--- number 11, before 2: what is needed would split an element of depth 60
+-- number 11, before 2: what is needed would split an element of depth 60. When that is so the marks alone tell: `refused-deep` of proofs/laws/Refusals.antt (02, L9)
 pub data OnDepth (E : Engine) (t : Lent) (c : Counts) (i roots : ℕ) (marks : List ℕ) (r : Refined) (t' : Lent) : Type 0 where
   deep : Deep (meshOf t c) roots marks → Refuses t 11 0 r t' → OnDepth E t c i roots marks r t'
   shallow : (Deep (meshOf t c) roots marks → ⊥) → OnRoom E t c i roots marks r t' → OnDepth E t c i roots marks r t'

@@ -14,9 +14,13 @@ use Rattle.forest.specs.Element.{Name, Forest, dimension, Element, el, S
 use Rattle.forest.specs.Generation.{gen}
 use Rattle.forest.specs.Invariant.{Fits}
 use Rattle.forest.specs.Closed.{Present, Closed}
-use Rattle.forest.specs.Shallow.{rootOf, Shallow}
+use Rattle.forest.specs.Shallow.{rootOf, DepthBelow, Shallow}
 use Rattle.forest.proofs.First.{level-low, level-least}
 use Rattle.forest.proofs.Blocking.{tip, ends-differ, level-within, level-beyond}
+
+-- what is of depth below a number is so below every greater one
+pub below-more : {F : Forest} {c d : ℕ} → c ≤ d → (e : Element) → DepthBelow F c e → DepthBelow F d e
+below-more h e m = record { root = m .root; shallow = omega (arith, m .shallow) }
 
 module _ {N n d : ℕ} {colour : ℕ → ℕ} {x : Shape} (f : Fits N colour n d x) where
   near-level : gen N colour (near x) .level ≤ f .level

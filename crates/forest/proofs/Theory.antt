@@ -1,21 +1,23 @@
 -- The theory as its users cite it: of the elements of a coloured forest, whatever the dimension and the colouring.
-use mathlib.Core.Path.{_≡_}
+use mathlib.Core.Path.{_≡_, ap}
 use mathlib.Core.Logic.{_⊎_}
 use mathlib.Core.List.{List, _∷_}
 use Prim.Native.Nat.{ℕ, _+_, _*_, _≤_, _<_}
-use Rattle.split.specs.Split.{Side, Distinct}
+use native.Mathlib.Omega.{arith}
+use Rattle.split.specs.Split.{Tag, three, number, Side, Distinct}
 use Rattle.forest.specs.Element.{Forest, dimension, Element, el, depth, near, away, shape, HoldsEdge}
 use Rattle.forest.specs.Start.{Coloured}
 use Rattle.forest.specs.Generation.{rank, edgeGen}
 use Rattle.forest.specs.Invariant.{Fits}
 use Rattle.forest.specs.Level.{LevelOf}
-use Rattle.forest.specs.Closed.{Closed, Forced}
-use Rattle.forest.specs.Shallow.{rootOf, Shallow}
+use Rattle.forest.specs.Closed.{ClosedAsDemanded, Closed, Forced}
+use Rattle.forest.specs.Shallow.{rootOf, DepthBelow, Shallow}
 use Rattle.forest.proofs.Every.{every-fits}
 use Rattle.forest.proofs.Blocking as B
 use Rattle.forest.proofs.Shallow as S
 use Rattle.forest.proofs.Levels as L
-use Rattle.forest.proofs.Forced.{forced-least}
+use Rattle.forest.proofs.Forced.{closed-demanded, forced-least}
+use Rattle.forest.proofs.Smallest.{closed-along}
 
 module _ (F : Forest) (N : ℕ) (colour : ℕ → ℕ) (c : Coloured F N colour) where
   -- the row invariant holds of every element (000, Theorem 10)
@@ -48,6 +50,12 @@ module _ (F : Forest) (N : ℕ) (colour : ℕ → ℕ) (c : Coloured F N colour)
 
   pub forced-shallow : (k : ℕ) {M : Element → Type 0} → ((e : Element) → M e → Shallow F k e) → (e : Element) → Forced F M e → Shallow F k e
   forced-shallow k = forced-least (shallow-closed k)
+
+  -- in space all elements of depth below 3 form a closed set in demand 3's own words, and so do those below 6, below 9 and below every multiple of three (02, L9)
+  pub threes-closed : F .top ≡ three → (k : ℕ) → ClosedAsDemanded F (DepthBelow F (3 * k))
+  threes-closed space k =
+      let thrice : dimension F * k ≡ 3 * k = ap (λ (tag : Tag). number tag * k) space in
+      closed-demanded (closed-along (λ e. (S.below-more (omega (arith, thrice)) e, S.below-more (omega (arith, thrice)) e)) (shallow-closed k))
 
   -- inequality (11) of 000 the right way round: a child's level is its parent's or one more
   pub child-level : (k : ℕ) → k < F .count → (s : Side) (p : List Side) {l m : ℕ} → LevelOf N colour (dimension F) (shape F (el k p)) l

@@ -7,5 +7,5 @@ pub mod Closed
 pub mod Union
 pub mod History
 pub mod Shallow
-pub mod Rounds
+pub mod W7
 pub mod LeafSum

@@ -1,4 +1,4 @@
-// A leaf of depth 60, marked: number 11, also where there is no room for another mark's split.
+// A leaf of depth 60, marked: number 11, also where there is no room for another mark's split. One of depth 59 beside it: done (document 02, L9).
 use crate::cases;
 use crate::show;
 use libc::STDOUT_FILENO;
@@ -12,11 +12,14 @@ fn capped(n: usize) -> usize
     if n < 100000 { n } else { 100000 }
 }
 
-// The deeper of two rows, where the second is a leaf.
-fn deeper(rows: &[u32], best: u32, k: u32) -> u32 {
+// The deeper of two rows, where the second is a leaf of depth below the limit.
+fn deeper(rows: &[u32], limit: u32, best: u32, k: u32) -> u32 {
     let old = tables::row::read(rows, best as usize);
     let held = tables::row::read(rows, k as usize);
     if held.child != 0 {
+        return best;
+    }
+    if limit <= held.depth {
         return best;
     }
     if held.depth < old.depth {
@@ -25,20 +28,20 @@ fn deeper(rows: &[u32], best: u32, k: u32) -> u32 {
     k
 }
 
-// The row of the deepest leaf among the first n, the last of several.
-fn deepest(rows: &[u32], n: usize) -> u32 {
+// The row of the deepest leaf of depth below the limit among the first n, the last of several.
+fn deepest(rows: &[u32], n: usize, limit: u32) -> u32 {
     let end = capped(n);
     let mut best = 0u32;
     let mut k = 0usize;
     while k < end {
-        best = deeper(rows, best, k as u32);
+        best = deeper(rows, limit, best, k as u32);
         k += 1;
     }
     best
 }
 
 fn step(points: &mut [f64], records: &mut [u32], rows: &mut [u32], c: Counts) -> Counts {
-    let mark = deepest(rows, c.rows);
+    let mark = deepest(rows, c.rows, 61);
     cases::after(closure::refine(points, records, rows, c, &[mark]), c)
 }
 
@@ -94,7 +97,7 @@ fn tight(points: &mut [f64], records: &mut [u32], rows: &mut [u32], c: Counts, m
 fn marked(points: &mut [f64], records: &mut [u32], rows: &mut [u32], c: Counts) {
     show::number(c.vertices);
     show::number(c.rows);
-    let deep = deepest(rows, c.rows);
+    let deep = deepest(rows, c.rows, 61);
     let held = tables::row::read(rows, deep as usize);
     show::number(held.depth as usize);
     show::end_line();
@@ -102,6 +105,15 @@ fn marked(points: &mut [f64], records: &mut [u32], rows: &mut [u32], c: Counts) 
     let leaf = first_leaf(rows, c.rows);
     tight(points, records, rows, c, &[leaf]);
     tight(points, records, rows, c, &[leaf, deep]);
+}
+
+// The deepest leaf that may be split, in the same mesh.
+fn spared(points: &mut [f64], records: &mut [u32], rows: &mut [u32], c: Counts) {
+    let leaf = deepest(rows, c.rows, 60);
+    let held = tables::row::read(rows, leaf as usize);
+    show::number(held.depth as usize);
+    show::end_line();
+    show::answer(closure::refine(points, records, rows, c, &[leaf]));
 }
 
 pub fn run() {
@@ -114,5 +126,6 @@ pub fn run() {
     if let Opened::Done(c) = r {
         let d = dig(&mut points, &mut records, &mut rows, c);
         marked(&mut points, &mut records, &mut rows, d);
+        spared(&mut points, &mut records, &mut rows, d);
     }
 }

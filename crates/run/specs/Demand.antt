@@ -8,6 +8,7 @@ use Rattle.tables.specs.Mesh.{Mesh}
 use Rattle.forest.specs.Element.{Name, Forest, Element, depth, middle, shape}
 use Rattle.forest.specs.Closed.{Forced}
 use Rattle.forest.specs.Union.{Either}
+use Rattle.sound.specs.Sound.{rowOf}
 use Rattle.sound.specs.Forest.{forestOf, elementOf, SplitOf}
 
 -- ---- whether depth or room refuses a set of splits
@@ -48,6 +49,14 @@ Needed m t marks = Forced (forestOf m t) (Either (SplitOf m t) (MarkedIn m t mar
 -- depth refuses it
 unfoldable pub Deep : Mesh → ℕ → List ℕ → Type 0
 Deep m t marks = DeepIn (Needed m t marks)
+
+-- some marked row is a leaf of depth 60 (02, L9): exactly then depth refuses it (`deep-exactly` of proofs/laws/Needs.antt)
+pub record MarkedDeep (m : Mesh) (marks : List ℕ) : Type 0 where
+  pub row : ℕ
+  pub listed : List·Memᴰ row marks
+  pub there : row < length (m .rows)
+  pub leaf : rowOf m row .child ≡ 0
+  pub deep : rowOf m row .depth ≡ 60
 
 -- room refuses it
 unfoldable pub Outgrows : Size → Mesh → ℕ → ℕ → List ℕ → Type 0

@@ -34,9 +34,17 @@ pub fn case(input: &Input, rounds: usize, share: u64) -> Case {
 }
 
 /// The generator splitmix64, the same in every run.
-struct Random(u64);
+pub struct Random(pub u64);
 
 impl Random {
+    pub fn below(&mut self, n: usize) -> usize {
+        (self.next() % n as u64) as usize
+    }
+
+    pub fn of(&mut self, list: &[u32]) -> u32 {
+        list[self.below(list.len())]
+    }
+
     fn next(&mut self) -> u64 {
         self.0 = self.0.wrapping_add(0x9e37_79b9_7f4a_7c15);
         let z = (self.0 ^ self.0 >> 30).wrapping_mul(0xbf58_476d_1ce4_e5b9);

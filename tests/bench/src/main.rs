@@ -1,7 +1,9 @@
 //! Times the proved code, without its contracts, and the model on the same meshes, side by side.
+//! With --deep N it compares them on meshes with leaves of depth 60 instead.
 
 mod calls;
 mod cases;
+mod deep;
 mod mesh;
 mod race;
 mod report;
@@ -114,7 +116,16 @@ fn bench() {
     report.end();
 }
 
+fn work() {
+    let words: Vec<String> = std::env::args().skip(1).collect();
+    match &words[..] {
+        [] => bench(),
+        [word, number] if word == "--deep" => deep::compare(number.parse().expect("no number")),
+        _ => panic!("bench [--deep N]"),
+    }
+}
+
 fn main() {
-    let run = std::thread::Builder::new().stack_size(STACK).spawn(bench);
+    let run = std::thread::Builder::new().stack_size(STACK).spawn(work);
     run.expect("no thread").join().expect("the bench failed");
 }

@@ -1,36 +1,32 @@
 -- Marks that have passed their tests, and those that have not.
-use mathlib.Core.Path.{_≡_, refl, sym, subst, _∙_}
-use mathlib.Core.Bool.{Bool, true, false, _&&_}
+use mathlib.Core.Path.{_≡_, sym, _∙_}
+use mathlib.Core.Bool.{true, false, true≢false}
 use mathlib.Core.List.{List, _∷_, List·Memᴰ, List·Memᴰ·head, List·Memᴰ·tail}
-use Prim.Native.Nat.{ℕ, suc, _≤_, _<_}
+use mathlib.Core.Logic.{_↔_, inl, inr}
+use Prim.Native.Nat.{ℕ, suc, _<_}
 use native.Mathlib.Omega.{arith}
-use lib.Dec.{eqb}
 use lib.ListN.{length, getD}
 use lib.Ieee.{Float}
-use borrow.Author.Tests.{eq-eqb, eqb-true, leb-false}
-use Rattle.split.specs.declared.row.Row.{Row}
+use borrow.Author.Tests.{leb-false}
 use Rattle.tables.specs.declared.layout.Counts.{Counts}
 use Rattle.tables.specs.Layout.{noRow, rowAt}
-use Rattle.tables.specs.Mesh.{meshOf}
-use Rattle.tables.proofs.laws.View.{length-up-to, up-to-at}
+use Rattle.tables.specs.Mesh.{Mesh, meshOf}
+use Rattle.tables.proofs.laws.View.{up-to-at, mesh-row}
 use Rattle.intake.specs.declared.answer.Found.the-variants.{Nowhere}
 use Rattle.intake.specs.declared.answer.Verdict.the-variants.{Passed, Refused}
-use Rattle.intake.specs.Search.{first, any}
-use Rattle.intake.specs.Verdict.{at}
+use Rattle.intake.specs.Search.{first}
 use Rattle.intake.proofs.laws.Search.{first-none, any-has, any-some}
-use Rattle.sound.specs.Sound.{Sound}
-use Rattle.sound.proofs.laws.Searches.{and-both}
+use Rattle.sound.specs.Sound.{rows, Sound}
 use Rattle.sound.specs.Check.{lent}
-use Rattle.sound.proofs.laws.Placed.{placed}
-use Rattle.run.specs.Demand.{Deep}
-use Rattle.run.proofs.laws.Needs.{AllMarkable, marked-deep, not-deep}
-use Rattle.closure.specs.State.{rowsOf, seen}
+use Rattle.sound.proofs.laws.Laid.{mesh-rows}
+use Rattle.run.specs.Demand.{Deep, MarkedDeep}
+use Rattle.run.proofs.laws.Needs.{AllMarkable, deep-or-all, deep-exactly}
 use Rattle.frame.specs.Marks.{deepAt}
-use Rattle.frame.proofs.laws.Marks.{deeps}
+use Rattle.frame.proofs.laws.Marks.{deep-at, deeps}
+use Rattle.closure.specs.State.{seen}
 use Rattle.closure.specs.Marking.{Fine}
 use Rattle.closure.specs.Refine.{absent}
 use Rattle.closure.proofs.laws.Cutting.{member-at}
-use Rattle.closure.proofs.laws.Entry.{entry-mesh, entry-ready}
 
 pub refused-never : {X : Type 0} {n p : ℕ} → Refused n p ≡ Passed → X
 refused-never e = let z : _≡_ {A = ℕ} 0 1 = cc in absurd (omega arith)
@@ -46,57 +42,46 @@ place-of : (l : List ℕ) (q : ℕ) → List·Memᴰ q l → Place l q
 place-of (x ∷ l) q (List·Memᴰ·head e) = record { index = 0; below = omega arith; is = sym e }
 place-of (x ∷ l) q (List·Memᴰ·tail k) = let p = place-of l q k in record { index = suc (p .index); below = omega (arith, p .below); is = p .is }
 
--- ---- marks on sound tables
+-- ---- marks on sound tables, once 10 is past
 
-and-false : (a b : Bool) → a ≡ true → (a && b) ≡ false → b ≡ false
-and-false true b e h = h
-and-false false b e h = let z : _≡_ {A = ℕ} 0 1 = cc in absurd (omega arith)
+module _ {p : List Float} {r w : List ℕ} {c : Counts} (s : Sound (lent p r w) c) (marks : List ℕ) (e : first (absent (c .rows) marks) (length marks) ≡ Nowhere) where
+  abbrev m : Mesh
+  m = meshOf (lent p r w) c
 
-any-false : (test : ℕ → Bool) (n k : ℕ) → any test n ≡ false → k < n → test k ≡ false
-any-false test n k e h = go (test k) refl
-  where
-    go : (b : Bool) → test k ≡ b → test k ≡ false
-    go false f = f
-    go true f = let x : true ≡ false = sym (any-has test n k h f) ∙ e in let z : _≡_ {A = ℕ} 0 1 = cc in absurd (omega arith)
+  pub mark-there : (j : ℕ) → j < length marks → getD marks j 0 < c .rows
+  mark-there j h = leb-false (c .rows) (getD marks j 0) (first-none (absent (c .rows) marks) (length marks) e j h)
 
-module _ {p : List Float} {r w : List ℕ} {c : Counts} (s : Sound (lent p r w) c) (marks : List ℕ) where
-  size : length (rowsOf w (c .rows)) ≡ c .rows
-  size = length-up-to (rowAt w) (c .rows)
+  -- the marks are rows of the mesh
+  pub mark-row : (q : ℕ) → List·Memᴰ q marks → q < rows m
+  mark-row q k = let x = place-of marks q k in rw (mesh-rows (lent p r w) c, ← x .is) (mark-there (x .index) (x .below))
 
-  pub mark-there : first (absent (c .rows) marks) (length marks) ≡ Nowhere → (j : ℕ) → j < length marks → getD marks j 0 < c .rows
-  mark-there e j h = leb-false (c .rows) (getD marks j 0) (first-none (absent (c .rows) marks) (length marks) e j h)
-
-  row-shallow : (q : ℕ) → q < c .rows → rowAt w q .depth ≤ 60
-  unfolding meshOf
-  row-shallow q h = subst (λ (x : Row). x .depth ≤ 60) (up-to-at (rowAt w) (c .rows) q noRow h) (placed (s .grown) q (rw size h) .shallow)
-
-  pub mark-fine : first (absent (c .rows) marks) (length marks) ≡ Nowhere → deeps w (c .rows) marks ≡ false → (j : ℕ) → j < length marks → Fine w (c .rows) (getD marks j 0)
-  unfolding deepAt
-  mark-fine e f j h =
-      let there = mark-there e j h in
-      record {
-        there = there;
-        shallow = λ l.
-            let no : rowAt w (getD marks j 0) .depth ≡ 60 → ⊥ = apart (rowAt w (getD marks j 0) .depth) (and-false _ _ (eq-eqb (rowAt w (getD marks j 0) .child) 0 l) (any-false (λ i. deepAt w (getD marks i 0)) (length marks) j f h)) in
-            omega (arith, row-shallow (getD marks j 0) there, no);
-      }
+  -- the test of the marks finds a leaf of depth 60 exactly if there is one
+  tested : deeps w (c .rows) marks ≡ true ↔ MarkedDeep m marks
+  tested = (find, found)
     where
-      apart : (d : ℕ) → eqb d 60 ≡ false → d ≡ 60 → ⊥
-      apart d a b = let x : true ≡ false = sym (eq-eqb d 60 b) ∙ a in let z : _≡_ {A = ℕ} 0 1 = cc in omega arith
+      find : deeps w (c .rows) marks ≡ true → MarkedDeep m marks
+      find f =
+          let (j, h, t) = any-some (λ i. deepAt w (getD marks i 0)) (length marks) f in
+          let (leaf, deep) = deep-at w (getD marks j 0) .0 t in
+          let is = mesh-row (lent p r w) c (getD marks j 0) (mark-there j h) in
+          record { row = getD marks j 0; listed = member-at marks j h; there = mark-row _ (member-at marks j h); leaf = rw is leaf; deep = rw is deep }
 
-  pub marks-markable : first (absent (c .rows) marks) (length marks) ≡ Nowhere → deeps w (c .rows) marks ≡ false → AllMarkable (seen r w c) marks
-  marks-markable e f q k =
-      let x = place-of marks q k in
-      let y = subst (Fine w (c .rows)) (x .is) (mark-fine e f (x .index) (x .below)) in
-      record { there = rw size (y .there); shallow = rw (up-to-at (rowAt w) (c .rows) q noRow (y .there)) (y .shallow) }
+      found : MarkedDeep m marks → deeps w (c .rows) marks ≡ true
+      found d =
+          let x = place-of marks (d .row) (d .listed) in
+          let is = mesh-row (lent p r w) c (d .row) (rw (mesh-rows (lent p r w) c) at (d .there)) in
+          any-has (λ i. deepAt w (getD marks i 0)) (length marks) (x .index) (x .below) (rw (x .is) (deep-at w (d .row) .1 (rw is at (d .leaf), rw is at (d .deep))))
 
-  pub marks-shallow : first (absent (c .rows) marks) (length marks) ≡ Nowhere → deeps w (c .rows) marks ≡ false → Deep (meshOf (lent p r w) c) (s .roots) marks → ⊥
-  marks-shallow e f d = not-deep (entry-ready s .grown) (marks-markable e f) (rw (entry-mesh s) d)
+  -- exactly then depth refuses the call (02, L9)
+  pub marks-deep : deeps w (c .rows) marks ≡ true → Deep m (s .roots) marks
+  marks-deep f = deep-exactly (s .grown) mark-row .1 (tested .0 f)
 
-  pub marks-deep : first (absent (c .rows) marks) (length marks) ≡ Nowhere → deeps w (c .rows) marks ≡ true → Deep (meshOf (lent p r w) c) (s .roots) marks
-  unfolding deepAt
-  marks-deep e f =
-      let (j, h, t) = any-some (λ i. deepAt w (getD marks i 0)) (length marks) f in
-      let (leaf, sixty) = and-both (eqb (rowAt w (getD marks j 0) .child) 0) (eqb (rowAt w (getD marks j 0) .depth) 60) t in
-      let there = mark-there e j h in
-      rw (entry-mesh s) at (marked-deep (entry-ready s .grown) (getD marks j 0) (member-at marks j h) (rw size there) (rw (up-to-at (rowAt w) (c .rows) (getD marks j 0) noRow there) (eqb-true _ _ sixty)))
+  pub marks-shallow : deeps w (c .rows) marks ≡ false → Deep m (s .roots) marks → ⊥
+  marks-shallow f d = true≢false (sym (tested .1 (deep-exactly (s .grown) mark-row .0 d)) ∙ f)
+
+  pub marks-markable : deeps w (c .rows) marks ≡ false → AllMarkable (seen r w c) marks
+  unfolding meshOf
+  marks-markable f = elim (deep-or-all (s .grown) marks mark-row) [ inl d ↦ absurd (true≢false (sym (tested .1 d) ∙ f)) | inr k ↦ k ]
+
+  pub mark-fine : deeps w (c .rows) marks ≡ false → (j : ℕ) → j < length marks → Fine w (c .rows) (getD marks j 0)
+  mark-fine f j h = record { there = mark-there j h; shallow = rw (up-to-at (rowAt w) (c .rows) (getD marks j 0) noRow (mark-there j h)) at (marks-markable f _ (member-at marks j h) .shallow) }

@@ -13,14 +13,16 @@ use Rattle.forest.proofs.History.{since-forced, nothing-before}
 use Rattle.intake.specs.declared.answer.Found.the-variants.{At, Nowhere}
 use Rattle.intake.specs.Search.{first}
 use Rattle.intake.specs.First.{FirstAt, None}
-use Rattle.intake.proofs.laws.First.{found-never, found-one, first-found, found-first, none-first}
+use Rattle.intake.proofs.laws.First.{found-never, found-one, first-found, found-first, none-first, first-nowhere}
 use Rattle.sound.specs.Sound.{Sound}
-use Rattle.run.specs.Demand.{DeepIn, HalvedIn, OutgrowsIn, rows, vertices, markedElements, Needed, Deep, Outgrows}
+use Rattle.run.specs.Demand.{DeepIn, HalvedIn, OutgrowsIn, rows, vertices, markedElements, Needed, Deep, MarkedDeep, Outgrows}
 use Rattle.run.proofs.laws.Calls.{needed-called}
+use Rattle.run.proofs.laws.Needs.{deep-exactly}
 use Rattle.closure.specs.declared.answer.Refined.{Refined}
 use Rattle.closure.specs.declared.answer.Refined.the-variants.{Done, Refused}
 use Rattle.closure.specs.Refine.{absent, roomIn, Engine, OnRoom, outgrown, fits, OnDepth, deep, shallow, OnMarks, missing, present, RefinesBy, unsound, sound}
 use Rattle.closure.specs.History.{Since, History, SinceMarks, WithMarks, RefusedExactly}
+use Rattle.closure.proofs.laws.Judged.{mark-row}
 use Rattle.closure.proofs.laws.History.{since-held}
 use Rattle.closure.proofs.laws.Promise.{done-never, judged-by, same-number, same-place}
 
@@ -74,7 +76,7 @@ module _ {E : Engine} {t : Lent} {c : Counts} {i roots : ℕ} {marks : List ℕ}
   depth-number (deep d x) e = inl (sym (same-number (sym (x .answers) ∙ e)))
   depth-number (shallow n x) e = inr (room-number x e)
 
--- ---- numbers 9 and 10 (demand 1)
+-- ---- numbers 9 and 10 (demand 1), and 11 once they are past (02, L9)
 
 module _ {E : Engine} {t : Lent} {c : Counts} {marks : List ℕ} {r : Refined} {t' : Lent} (x : RefinesBy E t c marks r t') where
   on-marks : (s : Sound t c) → OnMarks E t c (s .initials) (s .roots) marks r t'
@@ -108,6 +110,33 @@ module _ {E : Engine} {t : Lent} {c : Counts} {marks : List ℕ} {r : Refined} {
       back (missing q f y) g = y .answers ∙ ap (Refused 10) (found-one f g)
       back (present f y) g = found-never g f
 
+  -- once 9 and 10 are past, refused by 11 exactly if a marked row is a leaf of depth 60: never from closure alone (02, L9)
+  pub refused-deep : Sound t c → None (absent (c .rows) marks) (length marks) → r ≡ Refused 11 0 ↔ MarkedDeep (meshOf t c) marks
+  refused-deep s there = let e = none-first (absent (c .rows) marks) (length marks) there in Iff·trans (depth-exact (marks-there e (on-marks s))) (deep-exactly (s .grown) (mark-row s marks e))
+
+  -- the same, where the answer tells that they are past: it is neither
+  pub answered-deep : (r ≡ Refused 9 0 → ⊥) → ((p : ℕ) → r ≡ Refused 10 p → ⊥) → r ≡ Refused 11 0 ↔ MarkedDeep (meshOf t c) marks
+  answered-deep not-9 not-10 = go x
+    where
+      go : RefinesBy E t c marks r t' → r ≡ Refused 11 0 ↔ MarkedDeep (meshOf t c) marks
+      go (unsound n y) = absurd (not-9 (y .answers))
+      go (sound s (missing p f y)) = absurd (not-10 p (y .answers))
+      go (sound s (present f y)) = refused-deep s (first-nowhere (absent (c .rows) marks) (length marks) f)
+
+  -- 11 comes of a marked row that is a leaf of depth 60 alone, whatever the tables and the marks are
+  pub deep-marked : (p : ℕ) → r ≡ Refused 11 p → MarkedDeep (meshOf t c) marks
+  deep-marked p e = go x
+    where
+      go : RefinesBy E t c marks r t' → MarkedDeep (meshOf t c) marks
+      go (unsound n y) = absurd (omega (arith, same-number (sym (y .answers) ∙ e)))
+      go (sound s (missing q f y)) = absurd (omega (arith, same-number (sym (y .answers) ∙ e)))
+      go (sound s (present f (deep d y))) = deep-exactly (s .grown) (mark-row s marks f) .0 d
+      go (sound s (present f (shallow n y))) = absurd (omega (arith, room-number y e))
+
+  -- so a caller that marks no leaf of depth 60 never sees it (02, L9)
+  pub never-deep : (MarkedDeep (meshOf t c) marks → ⊥) → (p : ℕ) → r ≡ Refused 11 p → ⊥
+  never-deep none p e = none (deep-marked p e)
+
 -- ---- depth and room after a history (demand 3), of a call by any engine
 
 module _ {F : Forest} {o : Counts} {B : Element → Type 0} {t : Lent} {c : Counts} {calls : List (List Element)} (h : Since F o B t c calls) where
@@ -125,6 +154,13 @@ module _ {F : Forest} {o : Counts} {B : Element → Type 0} {t : Lent} {c : Coun
     needed-outgrows =
         subst (λ (X : Forest). Outgrows (roomIn t) (meshOf t c) (o .vertices) (o .rows) marks ↔ OutgrowsIn (roomIn t) X (o .vertices) W) (since-held h .after .forest)
         (outgrows-along same, outgrows-along (λ e. Iff·symm (same e)))
+
+    -- once the marks are rows, it would split an element of depth 60 exactly if a marked row is a leaf of depth 60
+    needed-marked : None (absent (c .rows) marks) (length marks) → DeepIn W ↔ MarkedDeep (meshOf t c) marks
+    needed-marked there =
+        let held = since-held h in
+        let row = mark-row (held .sound) marks (none-first (absent (c .rows) marks) (length marks) there) in
+        Iff·trans (Iff·symm needed-deep) (subst (λ (k : ℕ). Deep (meshOf t c) k marks ↔ MarkedDeep (meshOf t c) marks) (held .roots-are) (deep-exactly (held .sound .grown) row))
 
     module _ {E : Engine} {r : Refined} {t' : Lent} (x : RefinesBy E t c marks r t') (there : None (absent (c .rows) marks) (length marks)) where
       on-depth : OnDepth E t c (o .vertices) (o .rows) marks r t'
@@ -145,10 +181,18 @@ module _ {F : Forest} {o : Counts} {B : Element → Type 0} {t : Lent} {c : Coun
   pub since-exactly : {E : Engine} {marks : List ℕ} {r : Refined} {t' : Lent} → RefinesBy E t c marks r t' → None (absent (c .rows) marks) (length marks) → RefusedExactly F o (roomIn t) (SinceMarks F o B t c calls marks) r
   since-exactly {marks = marks} x there = exactly (since-needed marks) x there
 
+  -- that set has an element of depth 60 exactly if a row marked in this call is a leaf of depth 60 (02, L9)
+  pub since-marked : {marks : List ℕ} → None (absent (c .rows) marks) (length marks) → DeepIn (SinceMarks F o B t c calls marks) ↔ MarkedDeep (meshOf t c) marks
+  since-marked {marks} = needed-marked (since-needed marks)
+
 module _ {F : Forest} {o : Counts} {t : Lent} {c : Counts} {calls : List (List Element)} (h : History F o t c calls) where
   -- from an opened mesh on, what the call needs is what all marks so far force
   pub history-needed : (marks : List ℕ) (e : Element) → Needed (meshOf t c) (o .rows) marks e ↔ WithMarks F o t c calls marks e
   history-needed marks e = Iff·trans (since-needed h marks e) (nothing-before e)
+
+  -- the smallest closed set that holds all marks, this call's added, has an element of depth 60 exactly if a row marked in this call is a leaf of depth 60 (02, L9)
+  pub history-marked : {marks : List ℕ} → None (absent (c .rows) marks) (length marks) → DeepIn (WithMarks F o t c calls marks) ↔ MarkedDeep (meshOf t c) marks
+  history-marked {marks} = needed-marked h (history-needed marks)
 
   module _ {E : Engine} {marks : List ℕ} {r : Refined} {t' : Lent} (x : RefinesBy E t c marks r t') (there : None (absent (c .rows) marks) (length marks)) where
     opened-exactly : RefusedExactly F o (roomIn t) (WithMarks F o t c calls marks) r

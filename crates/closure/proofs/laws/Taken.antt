@@ -1,7 +1,7 @@
 -- A call that was accepted passed every test, and sound tables are a start for its run.
-use mathlib.Core.Path.{_≡_, refl}
-use mathlib.Core.Bool.{Bool, true, false}
+use mathlib.Core.Path.{_≡_}
 use mathlib.Core.List.{List}
+use mathlib.Core.Logic.{inl, inr}
 use Prim.Native.Nat.{ℕ}
 use lib.ListN.{length}
 use Rattle.tables.specs.declared.layout.Counts.{Counts}
@@ -14,12 +14,11 @@ use Rattle.run.specs.Skeleton.{skeleton, meshed}
 use Rattle.run.specs.Ready.{Ready}
 use Rattle.run.specs.Run.{Within}
 use Rattle.run.specs.Demand.{Deep, Outgrows}
-use Rattle.run.proofs.laws.Needs.{AllMarkable}
+use Rattle.run.proofs.laws.Needs.{AllMarkable, deep-or-all, deep-exactly}
 use Rattle.closure.specs.declared.answer.Refined.the-variants.{Done}
 use Rattle.closure.specs.Refine.{absent, roomIn, Engine, Accepts, outgrown, fits, deep, shallow, OnMarks, missing, present, RefinesBy, unsound, sound}
 use Rattle.closure.proofs.laws.Entry.{entry-mesh, entry-ready}
-use Rattle.frame.proofs.laws.Marks.{deeps}
-use Rattle.closure.proofs.laws.Judged.{marks-markable, marks-deep}
+use Rattle.closure.proofs.laws.Judged.{mark-row}
 use Rattle.closure.proofs.laws.Promise.{done-never, judged-by}
 
 -- ---- an accepted call passed every test
@@ -68,9 +67,4 @@ module _ {t : Lent} {c : Counts} (s : Sound t c) where
 
   -- marks that are there and do not need too deep an element
   pub sound-markable : {marks : List ℕ} → first (absent (c .rows) marks) (length marks) ≡ Nowhere → (Deep (meshOf t c) (s .roots) marks → ⊥) → AllMarkable (skeleton (meshOf t c)) marks
-  unfolding meshOf
-  sound-markable {marks} e n = go (deeps (t .rows) (c .rows) marks) refl
-    where
-      go : (b : Bool) → deeps (t .rows) (c .rows) marks ≡ b → AllMarkable (skeleton (meshOf t c)) marks
-      go true f = absurd (n (marks-deep s marks e f))
-      go false f = marks-markable s marks e f
+  sound-markable {marks} e n = let there = mark-row s marks e in elim (deep-or-all (s .grown) marks there) [ inl d ↦ absurd (n (deep-exactly (s .grown) there .1 d)) | inr k ↦ k ]

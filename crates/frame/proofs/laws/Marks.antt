@@ -2,13 +2,15 @@
 use mathlib.Core.Path.{_≡_, refl, sym, ap, _∙_}
 use mathlib.Core.Bool.{Bool, true, false}
 use mathlib.Core.List.{List}
+use mathlib.Core.Logic.{_↔_}
 use Prim.Native.Nat.{ℕ, _+_, _≤_, _<_}
 use native.Mathlib.Omega.{arith}
 use native.Mathlib.Decide.{ℕ-discrete}
-use borrow.Author.Tests.{eq-eqb, ne-eqb}
+use borrow.Author.Tests.{eq-eqb, ne-eqb, eqb-true}
 use lib.Dec.{eqb, leb}
 use lib.ListN.{length, getD}
 use Rattle.split.specs.declared.row.Row.{Row}
+use Rattle.split.proofs.laws.Tests.{both}
 use Rattle.tables.specs.Layout.{rowAt}
 use Rattle.intake.specs.declared.answer.Found.{Found}
 use Rattle.intake.specs.declared.answer.Found.the-variants.{At, Nowhere}
@@ -31,6 +33,11 @@ module _ (w : List ℕ) (r : ℕ) {held : Row} (is : held ≡ rowAt w r) where
   deep-leaf e = rw (← is, eq-eqb (held .child) 0 e)
 
 pub ruleset deepTests = (deep-split, deep-leaf)
+
+-- the test holds exactly of a leaf of depth 60 (02, L9)
+pub deep-at : (w : List ℕ) (r : ℕ) → deepAt w r ≡ true ↔ ((rowAt w r .child ≡ 0) × (rowAt w r .depth ≡ 60))
+unfolding deepAt
+deep-at w r = (λ e. let (leaf, deep) = both _ _ e in (eqb-true _ _ leaf, eqb-true _ _ deep), λ d. rw (d .0, d .1))
 
 -- ---- whether one passes: none below i does
 

@@ -1,8 +1,8 @@
 -- What a call needs (demand 3), on grown meshes, which need not conform: the split elements and the marks are in it, and so is a row that holds both ends of a needed row's edge; nothing of depth 60 is, unless it is marked.
 -- Where the marks are split, only needed elements are, and the mesh conforms, exactly the needed elements are split.
 use mathlib.Core.Path.{_≡_, refl, ap, _∙_}
-use mathlib.Core.List.{List, List·Memᴰ}
-use mathlib.Core.Logic.{_↔_, inl, inr}
+use mathlib.Core.List.{List, [], _∷_, List·Memᴰ, List·Memᴰ·head, List·Memᴰ·tail}
+use mathlib.Core.Logic.{_↔_, _⊎_, inl, inr}
 use Prim.Native.Nat.{ℕ, _<_}
 use native.Mathlib.Decide.{ℕ-discrete}
 use native.Mathlib.Omega.{arith}
@@ -26,7 +26,7 @@ use Rattle.sound.proofs.laws.Placed.{placed}
 use Rattle.sound.proofs.laws.Splits.{row-present, splits-closed}
 use Rattle.run.specs.Skeleton.{Skeleton, skeleton, rowIn}
 use Rattle.run.specs.Ready.{Open}
-use Rattle.run.specs.Demand.{MarkedIn, Needed, Deep}
+use Rattle.run.specs.Demand.{MarkedIn, Needed, Deep, MarkedDeep}
 use Rattle.run.proofs.laws.Edge.{Both, holds-edge}
 use Rattle.run.proofs.laws.Grows.{Grows}
 
@@ -119,3 +119,31 @@ module _ {m : Mesh} {i t : ℕ} (g : Grown m i t) where
     pub not-deep : AllMarkable (skeleton m) rs → Deep m t rs → ⊥
     unfolding Deep
     not-deep k d = omega (arith, d .deep, needed-shallow k (d .element) (d .needed))
+
+  -- a row that is there is a leaf of depth 60, or may be marked
+  deep-or-markable : (r : ℕ) → r < rows m → ((rowOf m r .child ≡ 0) × (rowOf m r .depth ≡ 60)) ⊎ Markable (skeleton m) r
+  deep-or-markable r h = elim (ℕ-discrete (rowOf m r .child) 0) [
+    | no split ↦ inr (record { there = h; shallow = λ l. absurd (split l) })
+    | yes leaf ↦ elim (ℕ-discrete (rowOf m r .depth) 60) [
+      | yes deep ↦ inl (leaf, deep)
+      | no less ↦ inr (record { there = h; shallow = λ l. omega (arith, placed g r h .shallow, less) })
+    ]
+  ]
+
+  -- so some mark is a leaf of depth 60, or all may be marked
+  pub deep-or-all : (rs : List ℕ) → ((r : ℕ) → List·Memᴰ r rs → r < rows m) → MarkedDeep m rs ⊎ AllMarkable (skeleton m) rs
+  deep-or-all [] h = inr (λ r k. elim k [ ])
+  deep-or-all (x ∷ rs) h = go (deep-or-markable x (h x (List·Memᴰ·head refl))) (deep-or-all rs (λ r k. h r (List·Memᴰ·tail k)))
+    where
+      go : ((rowOf m x .child ≡ 0) × (rowOf m x .depth ≡ 60)) ⊎ Markable (skeleton m) x → MarkedDeep m rs ⊎ AllMarkable (skeleton m) rs → MarkedDeep m (x ∷ rs) ⊎ AllMarkable (skeleton m) (x ∷ rs)
+      go (inl d) y = inl (record { row = x; listed = List·Memᴰ·head refl; there = h x (List·Memᴰ·head refl); leaf = d .0; deep = d .1 })
+      go (inr k) (inl d) = inl (record { row = d .row; listed = List·Memᴰ·tail (d .listed); there = d .there; leaf = d .leaf; deep = d .deep })
+      go (inr k) (inr ks) = inr all
+        where
+          all : AllMarkable (skeleton m) (x ∷ rs)
+          all r (List·Memᴰ·head e) = rw e k
+          all r (List·Memᴰ·tail l) = ks r l
+
+  -- what is needed holds an element of depth 60 exactly if a marked row is a leaf of depth 60: closure alone asks for none (02, L9)
+  pub deep-exactly : {rs : List ℕ} → ((r : ℕ) → List·Memᴰ r rs → r < rows m) → Deep m t rs ↔ MarkedDeep m rs
+  deep-exactly {rs} h = (λ d. elim (deep-or-all rs h) [ inl w ↦ w | inr k ↦ absurd (not-deep k d) ], λ w. marked-deep (w .row) (w .listed) (w .there) (w .deep))

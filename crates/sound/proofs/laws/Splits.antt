@@ -1,8 +1,8 @@
--- The split elements of conforming tables are a closed set (demand 3).
+-- The split elements of conforming tables are a closed set (demand 3), and so are all elements of depth below a multiple of three (02, L9).
 use mathlib.Core.Path.{_≡_, refl, sym, ap, _∙_}
 use mathlib.Core.List.{List, [], _∷_}
 use mathlib.Core.Logic.{inl, inr}
-use Prim.Native.Nat.{ℕ, _<_}
+use Prim.Native.Nat.{ℕ, _*_, _<_}
 use native.Mathlib.Decide.{ℕ-discrete}
 use native.Mathlib.Omega.{arith}
 use Rattle.split.specs.Split.{number, far, Side, Holds}
@@ -12,9 +12,12 @@ use Rattle.split.proofs.laws.Tags.{tag-range}
 use Rattle.split.proofs.laws.Children.{far-at}
 use Rattle.tables.specs.Mesh.{Mesh}
 use Rattle.forest.specs.Element.{Element, el, shape, HoldsEdge}
-use Rattle.forest.specs.Closed.{Present, Leaf, Closed}
+use Rattle.forest.specs.Closed.{Present, Leaf, ClosedAsDemanded, Closed}
+use Rattle.forest.specs.Shallow.{DepthBelow}
+use Rattle.forest.proofs.Theory.{threes-closed}
 use Rattle.sound.specs.Sound.{vertices, rows, rowOf, place, Grown, Conforming}
-use Rattle.sound.specs.Forest.{forestOf, nameOf, grown, elementOf, SplitOf}
+use Rattle.sound.specs.Forest.{forestOf, colourIn, largestIn, nameOf, grown, elementOf, SplitOf}
+use Rattle.sound.proofs.laws.Afresh.{coloured}
 use Rattle.sound.proofs.laws.Names.{one-vertex}
 use Rattle.sound.proofs.laws.Elements.{grown-parent, root-element, child-element, one-row}
 use Rattle.sound.proofs.laws.Placed.{Placed, placed-at, placed-near, placed-away, placed}
@@ -97,3 +100,7 @@ module _ {m : Mesh} {i t : ℕ} (g : Grown m i t) where
           | yes leaf ↦ absurd (edge-split (r .row) (s .row) (r .there) (s .there) (s .split) (rw (r .is, s .is) h) leaf)
           | no split ↦ record { row = r .row; there = r .there; split = split; is = r .is }
         ]
+
+-- all elements of depth below 3 form a closed set, and so do those below 6, below 9 and below every multiple of three (02, L9)
+pub depths-closed : {m : Mesh} {i t : ℕ} → Grown m i t → (k : ℕ) → ClosedAsDemanded (forestOf m t) (DepthBelow (forestOf m t) (3 * k))
+depths-closed {m} {i} {t} g = threes-closed (forestOf m t) (largestIn m i) (colourIn m i) (coloured g) refl

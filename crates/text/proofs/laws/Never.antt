@@ -1,37 +1,31 @@
 -- The program never answers 9 or 11: it refines opened tables, which are sound, and all of whose rows have depth 0.
 use mathlib.Core.Path.{_≡_, refl, sym, ap, subst, _∙_}
 use mathlib.Core.Bool.{Bool, true, false, cond}
-use mathlib.Core.List.{List, [], _∷_, _++_, append-assoc, List·Memᴰ, List·Memᴰ·head, List·Memᴰ·tail}
+use mathlib.Core.List.{List, [], _∷_, _++_, append-assoc}
 use Prim.Native.Nat.{ℕ, suc, _+_, _/_, _≤_, _<_}
 use native.Mathlib.Omega.{arith}
 use borrow.Author.Tests.{eqb-true}
 use lib.Dec.{eqb}
-use lib.ListN.{length, getD}
+use lib.ListN.{length}
 use Rattle.tables.specs.declared.layout.Counts.{Counts}
 use Rattle.tables.specs.Layout.{started}
 use Rattle.tables.specs.Mesh.{Lent, meshOf}
 use Rattle.tables.specs.Report.{Report, refusal, done}
-use Rattle.intake.specs.declared.answer.Found.the-variants.{Nowhere}
 use Rattle.intake.specs.declared.answer.Verdict.{Verdict}
 use Rattle.intake.specs.declared.answer.Verdict.the-variants as verdict
-use Rattle.intake.specs.Search.{first}
 use Rattle.opening.specs.declared.answer.Opened.{Opened}
 use Rattle.opening.specs.declared.answer.Opened.the-variants as opened
 use Rattle.opening.specs.Opening.{judged, answer}
 use Rattle.opening.proofs.laws.Refusals.{judged-number}
 use Rattle.sound.specs.Sound.{Sound}
 use Rattle.sound.proofs.laws.Afresh.{root-depth}
-use Rattle.run.specs.Demand.{Deep}
-use Rattle.run.specs.Skeleton.{skeleton}
-use Rattle.run.specs.Run.{RunAll}
-use Rattle.run.proofs.laws.Needs.{AllMarkable, not-deep}
+use Rattle.run.specs.Demand.{MarkedDeep}
 use Rattle.closure.specs.declared.answer.Refined.{Refined}
 use Rattle.closure.specs.declared.answer.Refined.the-variants as refined
 use Rattle.closure.specs.Refine as closure
-use Rattle.closure.specs.Refine.{absent, Refines, OnMarks}
-use Rattle.closure.proofs.laws.Judged.{mark-there}
-use Rattle.closure.proofs.laws.Taken.{sound-mesh, sound-ready, sound-rows}
-use Rattle.closure.proofs.laws.Promise.{judged-by}
+use Rattle.closure.specs.Refine.{Refines}
+use Rattle.closure.proofs.laws.Taken.{sound-rows}
+use Rattle.closure.proofs.laws.Refusals.{never-deep}
 use Rattle.closure.proofs.laws.Opened.{Unsplit, laid-unsplit}
 use Rattle.fields.specs.declared.line.Line.{Line}
 use Rattle.fields.specs.declared.line.Line.the-variants as line
@@ -172,33 +166,23 @@ opens-rows i {c} = go (judged (i .coordinates) (i .elements) 1536 1024 6144)
 
 -- ---- refining opened tables: 0, 10 and 2
 
-below-all : (n : ℕ) (l : List ℕ) → ((j : ℕ) → j < length l → getD l j 0 < n) → (q : ℕ) → List·Memᴰ q l → q < n
-below-all n (x ∷ l) f q (List·Memᴰ·head e) = rw e (f 0 (omega arith))
-below-all n (x ∷ l) f q (List·Memᴰ·tail k) = below-all n l (λ j h. f (suc j) (omega arith)) q k
-
 module _ {t : Lent} {c : Counts} (u : Unsplit t c) (marks : List ℕ) where
   abbrev s : Sound t c
   s = u .sound
 
-  -- marked rows are roots, of depth 0, so nothing of depth 60 is needed
-  unsplit-shallow : first (absent (c .rows) marks) (length marks) ≡ Nowhere → Deep (meshOf t c) (s .roots) marks → ⊥
-  unsplit-shallow e d = not-deep (sound-ready s .grown) markable (rw (sound-mesh s) d)
-    where
-      below : (q : ℕ) → List·Memᴰ q marks → q < c .rows
-      below = below-all (c .rows) marks (mark-there s marks e)
-
-      markable : AllMarkable (skeleton (meshOf t c)) marks
-      markable q k = record { there = rw (sound-rows s) (below q k); shallow = λ l. omega (arith, root-depth (s .grown) q (rw (u .roots-are) (below q k))) }
+  -- rows are roots, so none is of depth 60
+  unsplit-shallow : MarkedDeep (meshOf t c) marks → ⊥
+  unsplit-shallow d = omega (arith, d .deep, root-depth (s .grown) (d .row) (rw (u .roots-are, ← sound-rows s) (d .there)))
 
   unsplit-number : {r : Refined} {t' : Lent} → Refines t c marks r t' → Comes (closure.reported r .number)
-  unsplit-number (closure.unsound f x) = absurd (f s)
-  unsplit-number {r} {t'} (closure.sound s' x) = go (judged-by s s' x)
+  unsplit-number {r} {t'} x = go x
     where
-      go : OnMarks RunAll t c (s .initials) (s .roots) marks r t' → Comes (closure.reported r .number)
-      go (closure.missing p e x) = rw (x .reports) ten
-      go (closure.present e (closure.deep d x)) = absurd (unsplit-shallow e d)
-      go (closure.present e (closure.shallow n (closure.outgrown o x))) = rw (x .reports) (comes-low (omega arith))
-      go (closure.present e (closure.shallow n (closure.fits o x))) = rw (x .reports) (comes-low (omega arith))
+      go : Refines t c marks r t' → Comes (closure.reported r .number)
+      go (closure.unsound f y) = absurd (f s)
+      go (closure.sound s' (closure.missing p e y)) = rw (y .reports) ten
+      go (closure.sound s' (closure.present e (closure.deep d y))) = absurd (never-deep x unsplit-shallow 0 (y .answers))
+      go (closure.sound s' (closure.present e (closure.shallow n (closure.outgrown o y)))) = rw (y .reports) (comes-low (omega arith))
+      go (closure.sound s' (closure.present e (closure.shallow n (closure.fits o y)))) = rw (y .reports) (comes-low (omega arith))
 
 -- opened tables are never refused by 9 or 11
 pub opened-never : (i : Input) {c : Counts} → opens i ≡ opened.Done c → {marks : List ℕ} {r : Refined} {t' : Lent} → Refines (openedTables i) c marks r t' → (p : ℕ) → (r ≡ refined.Refused 9 p → ⊥) × (r ≡ refined.Refused 11 p → ⊥)

@@ -4,10 +4,10 @@ use Rattle.refined.proofs.depth.deepest.Statement.{statement}
 use Rattle.refined.proofs.depth.deepest.Tie as tie
 
 abbrev Inv-loop : tie.InvT-loop
-Inv-loop rows n end best₀ k₀ best k = end ≤ 100000
+Inv-loop rows n limit end best₀ k₀ best k = end ≤ 100000
 
 abbrev μ-loop : tie.MeasureT-loop
-μ-loop rows n end best₀ k₀ best k = end - k
+μ-loop rows n limit end best₀ k₀ best k = end - k
 
 capped-requires : tie.Need-capped-requires Inv-loop μ-loop
 capped-requires c κs = search needs
