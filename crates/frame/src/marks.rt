@@ -48,7 +48,7 @@ fn marks_deep(rows: &[u32], marks: &[u32], j: usize) -> bool
     is_deep(rows, wide(marks[j]))
 }
 
-// Whether a mark names a leaf of depth 60. Exactly then closure would split an element of depth 60, however far it reaches: `deep-exactly` of run/proofs/laws/Needs.antt (document 02, L9).
+// Whether a mark names a leaf of depth 60. Where the tables are sound and the marks are rows, exactly then closure would split an element of depth 60: `deep-exactly` of run/proofs/laws/Needs.antt (document 02, L9).
 fn any_deep(rows: &[u32], marks: &[u32]) -> bool
     ensures { λ r. ⌜ r ≡ any (λ j. deepAt (now (rows .entry)) (getD (now (marks .entry)) j 0)) (length (now (marks .entry))) ⌝ }
 {

@@ -48,7 +48,7 @@ module _ {p : List Float} {r w : List ℕ} {c : Counts} (s : Sound (lent p r w) 
   abbrev m : Mesh
   m = meshOf (lent p r w) c
 
-  pub mark-there : (j : ℕ) → j < length marks → getD marks j 0 < c .rows
+  mark-there : (j : ℕ) → j < length marks → getD marks j 0 < c .rows
   mark-there j h = leb-false (c .rows) (getD marks j 0) (first-none (absent (c .rows) marks) (length marks) e j h)
 
   -- the marks are rows of the mesh

@@ -104,7 +104,7 @@ module _ {m : Mesh} {i t : ℕ} (g : Grown m i t) where
   markable-shallow r o = elim (ℕ-discrete (rowOf m r .child) 0) [ yes l ↦ o .shallow l | no n ↦ split-shallow r (o .there) n ]
 
   module _ {rs : List ℕ} where
-    pub marked-deep : (r : ℕ) → List·Memᴰ r rs → r < rows m → rowOf m r .depth ≡ 60 → Deep m t rs
+    marked-deep : (r : ℕ) → List·Memᴰ r rs → r < rows m → rowOf m r .depth ≡ 60 → Deep m t rs
     unfolding Deep
     marked-deep r k h d = record { element = elementOf m t r; needed = needed-mark m t rs r k; deep = placed g r h .depth ∙ d }
 
@@ -116,7 +116,7 @@ module _ {m : Mesh} {i t : ℕ} (g : Grown m i t) where
         shallow x (inl s) = rw (← s .is) (shallow-element (s .row) (s .there) (split-shallow (s .row) (s .there) (s .split)))
         shallow x (inr j) = let o = k (j .row) (j .listed) in rw (← j .is) (shallow-element (j .row) (o .there) (markable-shallow (j .row) o))
 
-    pub not-deep : AllMarkable (skeleton m) rs → Deep m t rs → ⊥
+    not-deep : AllMarkable (skeleton m) rs → Deep m t rs → ⊥
     unfolding Deep
     not-deep k d = omega (arith, d .deep, needed-shallow k (d .element) (d .needed))
 
