@@ -72,12 +72,15 @@ module _ {p : List Float} {r w : List ℕ} {c : Counts} (s : Sound (lent p r w) 
           let is = mesh-row (lent p r w) c (d .row) (rw (mesh-rows (lent p r w) c) at (d .there)) in
           any-has (λ i. deepAt w (getD marks i 0)) (length marks) (x .index) (x .below) (rw (x .is) (deep-at w (d .row) .1 (rw is at (d .leaf), rw is at (d .deep))))
 
-  -- exactly then depth refuses the call (02, L9)
+  -- what is needed holds an element of depth 60 exactly then (02, L9)
+  pub deep-by-marks : Deep m (s .roots) marks ↔ MarkedDeep m marks
+  deep-by-marks = deep-exactly (s .grown) mark-row
+
   pub marks-deep : deeps w (c .rows) marks ≡ true → Deep m (s .roots) marks
-  marks-deep f = deep-exactly (s .grown) mark-row .1 (tested .0 f)
+  marks-deep f = deep-by-marks .1 (tested .0 f)
 
   pub marks-shallow : deeps w (c .rows) marks ≡ false → Deep m (s .roots) marks → ⊥
-  marks-shallow f d = true≢false (sym (tested .1 (deep-exactly (s .grown) mark-row .0 d)) ∙ f)
+  marks-shallow f d = true≢false (sym (tested .1 (deep-by-marks .0 d)) ∙ f)
 
   pub marks-markable : deeps w (c .rows) marks ≡ false → AllMarkable (seen r w c) marks
   unfolding meshOf

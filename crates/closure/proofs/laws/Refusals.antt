@@ -17,12 +17,11 @@ use Rattle.intake.proofs.laws.First.{found-never, found-one, first-found, found
 use Rattle.sound.specs.Sound.{Sound}
 use Rattle.run.specs.Demand.{DeepIn, HalvedIn, OutgrowsIn, rows, vertices, markedElements, Needed, Deep, MarkedDeep, Outgrows}
 use Rattle.run.proofs.laws.Calls.{needed-called}
-use Rattle.run.proofs.laws.Needs.{deep-exactly}
 use Rattle.closure.specs.declared.answer.Refined.{Refined}
 use Rattle.closure.specs.declared.answer.Refined.the-variants.{Done, Refused}
 use Rattle.closure.specs.Refine.{absent, roomIn, Engine, OnRoom, outgrown, fits, OnDepth, deep, shallow, OnMarks, missing, present, RefinesBy, unsound, sound}
 use Rattle.closure.specs.History.{Since, History, SinceMarks, WithMarks, RefusedExactly}
-use Rattle.closure.proofs.laws.Judged.{mark-row}
+use Rattle.closure.proofs.laws.Judged.{deep-by-marks}
 use Rattle.closure.proofs.laws.History.{since-held}
 use Rattle.closure.proofs.laws.Promise.{done-never, judged-by, same-number, same-place}
 
@@ -112,7 +111,7 @@ module _ {E : Engine} {t : Lent} {c : Counts} {marks : List ℕ} {r : Refined} {
 
   -- once 9 and 10 are past, refused by 11 exactly if a marked row is a leaf of depth 60: never from closure alone (02, L9)
   pub refused-deep : Sound t c → None (absent (c .rows) marks) (length marks) → r ≡ Refused 11 0 ↔ MarkedDeep (meshOf t c) marks
-  refused-deep s there = let e = none-first (absent (c .rows) marks) (length marks) there in Iff·trans (depth-exact (marks-there e (on-marks s))) (deep-exactly (s .grown) (mark-row s marks e))
+  refused-deep s there = let e = none-first (absent (c .rows) marks) (length marks) there in Iff·trans (depth-exact (marks-there e (on-marks s))) (deep-by-marks s marks e)
 
   -- the same, where the answer tells that they are past: it is neither
   pub answered-deep : (r ≡ Refused 9 0 → ⊥) → ((p : ℕ) → r ≡ Refused 10 p → ⊥) → r ≡ Refused 11 0 ↔ MarkedDeep (meshOf t c) marks
@@ -130,7 +129,7 @@ module _ {E : Engine} {t : Lent} {c : Counts} {marks : List ℕ} {r : Refined} {
       go : RefinesBy E t c marks r t' → MarkedDeep (meshOf t c) marks
       go (unsound n y) = absurd (omega (arith, same-number (sym (y .answers) ∙ e)))
       go (sound s (missing q f y)) = absurd (omega (arith, same-number (sym (y .answers) ∙ e)))
-      go (sound s (present f (deep d y))) = deep-exactly (s .grown) (mark-row s marks f) .0 d
+      go (sound s (present f (deep d y))) = deep-by-marks s marks f .0 d
       go (sound s (present f (shallow n y))) = absurd (omega (arith, room-number y e))
 
   -- so a caller that marks no leaf of depth 60 never sees it (02, L9)
@@ -159,8 +158,8 @@ module _ {F : Forest} {o : Counts} {B : Element → Type 0} {t : Lent} {c : Coun
     needed-marked : None (absent (c .rows) marks) (length marks) → DeepIn W ↔ MarkedDeep (meshOf t c) marks
     needed-marked there =
         let held = since-held h in
-        let row = mark-row (held .sound) marks (none-first (absent (c .rows) marks) (length marks) there) in
-        Iff·trans (Iff·symm needed-deep) (subst (λ (k : ℕ). Deep (meshOf t c) k marks ↔ MarkedDeep (meshOf t c) marks) (held .roots-are) (deep-exactly (held .sound .grown) row))
+        let by-marks = deep-by-marks (held .sound) marks (none-first (absent (c .rows) marks) (length marks) there) in
+        Iff·trans (Iff·symm needed-deep) (subst (λ (k : ℕ). Deep (meshOf t c) k marks ↔ MarkedDeep (meshOf t c) marks) (held .roots-are) by-marks)
 
     module _ {E : Engine} {r : Refined} {t' : Lent} (x : RefinesBy E t c marks r t') (there : None (absent (c .rows) marks) (length marks)) where
       on-depth : OnDepth E t c (o .vertices) (o .rows) marks r t'

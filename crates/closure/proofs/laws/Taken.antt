@@ -14,11 +14,11 @@ use Rattle.run.specs.Skeleton.{skeleton, meshed}
 use Rattle.run.specs.Ready.{Ready}
 use Rattle.run.specs.Run.{Within}
 use Rattle.run.specs.Demand.{Deep, Outgrows}
-use Rattle.run.proofs.laws.Needs.{AllMarkable, deep-or-all, deep-exactly}
+use Rattle.run.proofs.laws.Needs.{AllMarkable, deep-or-all}
 use Rattle.closure.specs.declared.answer.Refined.the-variants.{Done}
 use Rattle.closure.specs.Refine.{absent, roomIn, Engine, Accepts, outgrown, fits, deep, shallow, OnMarks, missing, present, RefinesBy, unsound, sound}
 use Rattle.closure.proofs.laws.Entry.{entry-mesh, entry-ready}
-use Rattle.closure.proofs.laws.Judged.{mark-row}
+use Rattle.closure.proofs.laws.Judged.{mark-row, deep-by-marks}
 use Rattle.closure.proofs.laws.Promise.{done-never, judged-by}
 
 -- ---- an accepted call passed every test
@@ -67,4 +67,4 @@ module _ {t : Lent} {c : Counts} (s : Sound t c) where
 
   -- marks that are there and do not need too deep an element
   pub sound-markable : {marks : List ℕ} → first (absent (c .rows) marks) (length marks) ≡ Nowhere → (Deep (meshOf t c) (s .roots) marks → ⊥) → AllMarkable (skeleton (meshOf t c)) marks
-  sound-markable {marks} e n = let there = mark-row s marks e in elim (deep-or-all (s .grown) marks there) [ inl d ↦ absurd (n (deep-exactly (s .grown) there .1 d)) | inr k ↦ k ]
+  sound-markable {marks} e n = elim (deep-or-all (s .grown) marks (mark-row s marks e)) [ inl d ↦ absurd (n (deep-by-marks s marks e .1 d)) | inr k ↦ k ]
