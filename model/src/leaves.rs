@@ -14,7 +14,8 @@ pub fn element(elements: &[u32], count: usize, row: usize) -> &[u32] {
     }
 }
 
-/// Lists the leaves with their levels, zeros after them; the answer is their number.
+/// Lists the leaves with their levels (the number of splits divided by the dimension, rounded up), zeros after them;
+/// the answer is the number of leaves.
 pub fn leaves(
     tables: Tables,
     counts: Counts,
@@ -35,7 +36,7 @@ pub fn leaves(
     for root in (0..counts.rows).take_while(|&r| tables.row(r).parent as usize == r) {
         walk(tables, root, &mut |leaf, depth| {
             rows[at] = leaf as u32;
-            levels[at] = depth / 3;
+            levels[at] = depth.div_ceil(3);
             at += 1;
         });
     }

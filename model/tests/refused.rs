@@ -163,7 +163,7 @@ fn listed() {
             lists,
         )
     };
-    let done = (Ok(4), (vec![5, 6, 4, 2], vec![1, 1, 0, 0, 0, 0]));
+    let done = (Ok(4), (vec![5, 6, 4, 2], vec![1, 1, 1, 1, 0, 0]));
     assert_eq!(list(4, 6, mesh.counts), done);
     assert_eq!(
         list(3, 6, mesh.counts),

@@ -1,3 +1,4 @@
+pub mod Rounding
 pub mod Steps
 pub mod Walking
 pub mod Counting
@@ -7,3 +8,4 @@ pub mod Tree
 pub mod Leaves
 pub mod Sound
 pub mod Promise
+pub mod Levels

@@ -1,3 +1,4 @@
+pub mod Level
 pub mod Listing
 pub mod Lists
 pub mod Walk

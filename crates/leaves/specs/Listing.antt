@@ -7,13 +7,13 @@ use lib.ListN.{length}
 use Rattle.split.specs.declared.row.Row.{Row}
 use Rattle.run.specs.Skeleton.{rowIn}
 
--- the level of a depth: divided by three, remainder dropped
-unfoldable pub levelOf : ℕ → ℕ
-levelOf depth = depth / 3
+-- the level: the number of splits divided by the dimension n, rounded up (02, L1; 000, after equation (10))
+unfoldable pub levelOf : (n depth : ℕ) → ℕ
+levelOf n depth = (depth + (n - 1)) / n
 
 -- the level of row k
 abbrev pub levelIn : List Row → ℕ → ℕ
-levelIn W k = levelOf (rowIn W k .depth)
+levelIn W k = levelOf 3 (rowIn W k .depth)
 
 -- the leaves at and below row k, the first child's side before the second's; the number bounds how deep to look
 unfoldable pub listingFrom : List Row → ℕ → ℕ → List ℕ

@@ -61,7 +61,7 @@ pub record Low (k at : ℕ) : Type 0 where
 -- one row and the level of its depth were stored
 pub record StoresOne (at k depth : ℕ) (list levels : List ℕ) (e : ℕ) (list' levels' : List ℕ) : Type 0 where
   pub list-is : list' ≡ set list at k
-  pub levels-is : levels' ≡ set levels at (levelOf depth)
+  pub levels-is : levels' ≡ set levels at (levelOf 3 depth)
   pub next : e ≡ at + 1
 
 -- row k's tree, if k is a root, can be listed from place `at` on

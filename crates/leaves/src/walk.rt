@@ -2,14 +2,21 @@
 use chain::put;
 use chain::wide;
 ghost use mathlib.Core.Path.{_≡_};
+ghost use Prim.Native.Nat.{_≤_};
 ghost use Rattle.leaves.specs.Listing.{levelOf};
 ghost use Rattle.leaves.specs.Walk.{below, Low, Walkable, Stores, StoresOne};
 
-// The level of a depth (document 01, "What comes back").
-fn level(depth: u32) -> u32
-    ensures { λ r. ⌜ r ≡ levelOf depth ⌝ }
+const DIMENSION: u32 = 3;
+
+// The level of a depth (document 02, L1): divided by the dimension and rounded up, with no sum that could outgrow a u32.
+fn level(depth: u32, dimension: u32) -> u32
+    requires { ⌜ 1 ≤ dimension ⌝ }
+    ensures { λ r. ⌜ r ≡ levelOf dimension depth ⌝ }
 {
-    depth / 3
+    if depth == 0 {
+        return 0;
+    }
+    (depth - 1) / dimension + 1
 }
 
 // Lists the leaf k, and answers the next place.
@@ -18,7 +25,7 @@ fn list_leaf(list: &mut [u32], levels: &mut [u32], at: usize, k: usize, depth: u
     ensures { λ e. ⌜ StoresOne at k depth (now (list .entry)) (now (levels .entry)) e (now (list .exit)) (now (levels .exit)) ⌝ }
 {
     put(list, at, k as u32);
-    put(levels, at, level(depth));
+    put(levels, at, level(depth, DIMENSION));
     at + 1
 }
 

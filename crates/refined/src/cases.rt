@@ -120,13 +120,25 @@ fn one(elements: &[u32], vertices: usize, room: usize, marks: &[u32])
     );
 }
 
-// Three calls on what was opened.
-fn thrice(r: Opened, points: &mut [f64], records: &mut [u32], rows: &mut [u32]) {
+// Three calls, and the counts after them.
+fn thrice(points: &mut [f64], records: &mut [u32], rows: &mut [u32], c: Counts) -> Counts {
+    let d = call(points, records, rows, c, &[0]);
+    let e = call(points, records, rows, d, &[1]);
+    call(points, records, rows, e, &[3])
+}
+
+// The listing where leaves have depths 1 to 3, and after one more call, which makes two of depth 4 (document 02, L1).
+fn levels(points: &mut [f64], records: &mut [u32], rows: &mut [u32], c: Counts) {
+    short(points, records, rows, c);
+    listed(points, records, rows, c);
+    let d = call(points, records, rows, c, &[5]);
+    listed(points, records, rows, d);
+}
+
+fn four_calls(r: Opened, points: &mut [f64], records: &mut [u32], rows: &mut [u32]) {
     if let Opened::Done(c) = r {
-        let d = call(points, records, rows, c, &[0]);
-        let e = call(points, records, rows, d, &[1]);
-        let f = call(points, records, rows, e, &[3]);
-        short(points, records, rows, f);
+        let d = thrice(points, records, rows, c);
+        levels(points, records, rows, d);
         return;
     }
     show::end_line();
@@ -135,15 +147,15 @@ fn thrice(r: Opened, points: &mut [f64], records: &mut [u32], rows: &mut [u32]) 
 fn grown(points: &mut [f64], records: &mut [u32], rows: &mut [u32]) {
     let at = corners();
     let r = opening::open(&at[0..12], &[0, 1, 2, 3], points, records, rows);
-    thrice(r, points, records, rows);
+    four_calls(r, points, records, rows);
     whole(points, records, rows);
 }
 
 fn single() {
     io::write_all(STDOUT_FILENO, b"W2 W3 W4\n");
-    let mut points = [7.0f64; 21];
-    let mut records = [7u32; 14];
-    let mut rows = [7u32; 56];
+    let mut points = [7.0f64; 24];
+    let mut records = [7u32; 16];
+    let mut rows = [7u32; 72];
     grown(&mut points, &mut records, &mut rows);
 }
 

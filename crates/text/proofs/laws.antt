@@ -7,3 +7,4 @@ pub mod Answer
 pub mod Written
 pub mod Never
 pub mod Roots
+pub mod Bands

@@ -1,10 +1,11 @@
 //! Number 11 (document 02, L9): Lampethor beside the model on meshes with leaves of depth 60, the
 //! whole tables by their bits. The model refuses where its closure comes to split such a leaf, as
-//! document 01 has it; Lampethor asks for a marked one, and so does the test here.
+//! document 01 has it; Lampethor asks for a marked one, and so does the test here. After each call
+//! the leaves are listed on both sides (document 02, L1): the program's text has no level above 1.
 
 use crate::cases::Random;
 use crate::mesh::{grid, hub, Counts, Input, Mesh};
-use crate::sides::{Lampethor, Model, Side};
+use crate::sides::{Lampethor, Listing, Model, Refusal, Side};
 use tables::layout::ROW;
 
 const ROOM: Counts = (8_000, 40_000);
@@ -83,8 +84,12 @@ fn due(mesh: &Mesh, marks: &[u32]) -> bool {
     Model::check(mesh) && marks.iter().all(there) && marks.iter().any(|r| deep.contains(r))
 }
 
-/// One call on both sides; answers the number, 0 where it is done.
-fn call(before: &Mesh, marks: &[u32]) -> usize {
+fn number<T>(answer: Result<T, Refusal>) -> usize {
+    answer.map_or_else(|(number, _)| number as usize, |_| 0)
+}
+
+/// One call on both sides; answers the number, 0 where it is done, and the mesh after it.
+fn call(before: &Mesh, marks: &[u32]) -> (usize, Mesh) {
     let (mut ours, mut theirs) = (before.clone(), before.clone());
     let answer = Lampethor::refine(&mut ours, marks);
     assert_eq!(
@@ -93,12 +98,41 @@ fn call(before: &Mesh, marks: &[u32]) -> usize {
         "the two sides differ"
     );
     assert!(ours == theirs, "the tables differ");
-    let number = answer.map_or_else(|(number, _)| number as usize, |_| 0);
+    let number = number(answer);
     assert_eq!(number == 11, due(before, marks), "11 for another cause");
-    number
+    (number, ours)
 }
 
-/// At least so many calls; prints how many of them gave each number.
+/// The leaves listed on both sides, one list in eight too short by one; answers the number.
+fn list(random: &mut Random, mesh: &Mesh, levels: &mut [usize]) -> usize {
+    let mut room = || vec![1; mesh.leaves().len() + random.below(8) - 1];
+    let mut ours = Listing {
+        rows: room(),
+        levels: room(),
+        number: 0,
+    };
+    let mut theirs = ours.clone();
+    let answer = Lampethor::list(mesh, &mut ours);
+    assert_eq!(
+        answer,
+        Model::list(mesh, &mut theirs),
+        "the two sides differ"
+    );
+    assert!(ours == theirs, "the lists differ");
+    for &level in &ours.levels[..ours.number] {
+        levels[level as usize] += 1;
+    }
+    number(answer)
+}
+
+/// Prints how many answers had each number.
+fn show(what: &str, seen: &[usize]) {
+    for (number, times) in seen.iter().enumerate().filter(|(_, &times)| times > 0) {
+        println!("{times} {what} {number}");
+    }
+}
+
+/// At least so many calls, each followed by a listing.
 pub fn compare(least: usize) {
     let mut random = Random(1);
     let mut inputs = vec![
@@ -108,19 +142,22 @@ pub fn compare(least: usize) {
         hub(2, false),
     ];
     inputs.extend((3..9).map(ring));
-    let (mut seen, mut made) = ([0; 12], 0);
+    let (mut seen, mut listed, mut levels) = ([0; 12], [0; 12], [0; 21]);
+    let mut made = 0;
     while made < least {
         let input = random.below(inputs.len());
         let mesh = deepened(&mut random, &inputs[input]);
         for _ in 0..CALLS {
             let before = lent(&mut random, &mesh);
             let marks = marks(&mut random, &mesh);
-            seen[call(&before, &marks)] += 1;
+            let (number, after) = call(&before, &marks);
+            seen[number] += 1;
+            listed[list(&mut random, &after, &mut levels)] += 1;
         }
         made += CALLS;
     }
-    for (number, calls) in seen.iter().enumerate().filter(|(_, &calls)| calls > 0) {
-        println!("{calls} calls answered {number}");
-    }
+    show("calls answered", &seen);
+    show("listings answered", &listed);
+    show("leaves listed with level", &levels);
     println!("{made} calls, no difference");
 }

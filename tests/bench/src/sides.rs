@@ -7,7 +7,7 @@ use tables::layout::ROW;
 pub type Refusal = (u32, usize);
 
 /// The two lent lists, rows and levels, and the number of leaves.
-#[derive(Debug, PartialEq)]
+#[derive(Clone, Debug, PartialEq)]
 pub struct Listing {
     pub rows: Vec<u32>,
     pub levels: Vec<u32>,

@@ -23,7 +23,7 @@ use Rattle.leaves.proofs.laws.Walking.{stores-none, stores-both, stores
 pub put-nothing : (l : List ℕ) (i x : ℕ) → length l ≤ i → l ≡ set l i x
 put-nothing l i x e = sym (set-out l i x e)
 
-pub one-stored : {at k depth : ℕ} {l v l' v' : List ℕ} {d : ℕ} → l' ≡ set l at k → d ≡ levelOf depth → v' ≡ set v at d → StoresOne at k depth l v (at + 1) l' v'
+pub one-stored : {at k depth : ℕ} {l v l' v' : List ℕ} {d : ℕ} → l' ≡ set l at k → d ≡ levelOf 3 depth → v' ≡ set v at d → StoresOne at k depth l v (at + 1) l' v'
 one-stored e f g = record { list-is = e; levels-is = rw f at g; next = refl }
 
 -- ---- the loop over the roots

@@ -44,7 +44,10 @@ module _ {l v : List ℕ} {r r₂ : Listed} {l' v' l₂ v₂ : List ℕ} where
 same-number : {n m p q : ℕ} → Refused n p ≡ Refused m q → n ≡ m
 same-number e = cc
 
-done-never : {X : Type 0} {k n p : ℕ} → Refused n p ≡ Done k → X
+pub done-same : {n m : ℕ} → Done n ≡ Done m → n ≡ m
+done-same e = cc
+
+pub done-never : {X : Type 0} {k n p : ℕ} → Refused n p ≡ Done k → X
 done-never e = let z : _≡_ {A = ℕ} 0 1 = cc in absurd (omega arith)
 
 refused-number : {t : Lent} {c : Counts} {l v : List ℕ} {k p : ℕ} {l' v' : List ℕ} → Lists t c l v (Refused k p) l' v' → 1 ≤ k

@@ -3,7 +3,7 @@ use mathlib.Core.Path.{_≡_, refl, sym, ap, _∙_}
 use mathlib.Core.Bool.{Bool, true, false}
 use mathlib.Core.Logic.{inl, inr}
 use mathlib.Core.List.{List, [], _∷_, _++_, map, map-append, List·Memᴰ, List·Memᴰ·append-cases, List·Memᴰ·eq-of-singleton}
-use Prim.Native.Nat.{ℕ, zero, suc, _+_, _-_, _^_, _<_}
+use Prim.Native.Nat.{ℕ, zero, suc, _+_, _-_, _^_, _≤_, _<_}
 use native.Mathlib.Nat.{pow-suc}
 use native.Mathlib.Decide.{ℕ-discrete}
 use native.Mathlib.Omega.{arith}
@@ -84,6 +84,9 @@ module _ {m : Mesh} {i t : ℕ} (g : Grown m i t) where
   child-depth q l d s =
       let b = place-below g q l d s in
       omega (arith, placed g q l .depth, placed g (place s (rowOf m q .child)) (b .there) .depth, ap depth (place-element g q l d s), grown-depth s (elementOf m t q))
+
+  pub below-parent : (r : ℕ) → t ≤ r → r < rows m → rowOf m r .depth ≡ rowOf m (rowOf m r .parent) .depth + 1
+  below-parent r h l = let c = g .child r h l in rw (← c .here) at (child-depth (rowOf m r .parent) (omega (arith, c .older)) (c .split) (c .side))
 
   -- a row of depth 60 has no children
   deep-leaf : (k : ℕ) → k < rows m → rowOf m k .depth + 0 ≡ 60 → rowOf m k .child ≡ 0

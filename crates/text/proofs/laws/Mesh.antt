@@ -6,7 +6,7 @@ use Prim.Native.Nat.{ℕ, zero, suc, _+_, _-_, _*_, _≤_, _<_}
 use native.Mathlib.Omega.{arith}
 use borrow.Author.Tests.{eq-eqb, ne-eqb}
 use lib.Ieee.{Float}
-use lib.ListN.{length, getD, replicate, length-append, length-replicate, length-map, List·getD-append}
+use lib.ListN.{length, replicate, length-append, length-replicate, length-map}
 use Rattle.split.specs.declared.row.Row.{Row}
 use Rattle.tables.specs.declared.layout.Counts.{Counts}
 use Rattle.tables.specs.Layout.{roomOf, sized}
@@ -23,6 +23,8 @@ use Rattle.leaves.specs.declared.answer.Listed.the-variants as listed
 use Rattle.leaves.specs.Listing.{levelIn, listing}
 use Rattle.leaves.specs.Lists.{Accepts, Lists, unsound, sound, short, fits}
 use Rattle.leaves.specs.Walk.{leafAt}
+use Rattle.leaves.proofs.laws.Levels.{padded-at}
+use Rattle.leaves.proofs.laws.Promise.{done-same, done-never}
 use Rattle.leaves.proofs.laws.Sound.{sound-listable}
 use Rattle.text.specs.Output.{cLine, pLines, lLines, leafLine, texts}
 use Rattle.text.specs.Putting.{Puts}
@@ -75,17 +77,8 @@ unfolding texts
 texts-same f g zero s = refl
 texts-same f g (suc n) s = rw (texts, s n (omega arith), texts-same f g n (λ j h. s j (omega arith)))
 
-padded-at : (n : ℕ) (l : List ℕ) (j : ℕ) → j < length l → getD (padded n 0 l) j 0 ≡ getD l j 0
-padded-at n l j h = List·getD-append l (replicate (n - length l) 0) 0 j h
-
 padded-size : (n : ℕ) (l : List ℕ) → length l ≤ n → length (padded n 0 l) ≡ n
 padded-size n l h = length-append l (replicate (n - length l) 0) ∙ rw (length-replicate {A = ℕ} (n - length l) 0) (omega (arith, h))
-
-done-same : {n m : ℕ} → listed.Done n ≡ listed.Done m → n ≡ m
-done-same q = cc
-
-refused-not : {n p m : ℕ} → listed.Refused n p ≡ listed.Done m → ⊥
-refused-not q = let z : _≡_ {A = ℕ} 0 1 = cc in omega (arith, z)
 
 module _ {p : List Float} {r w : List ℕ} {c : Counts} {at : ℕ} (x : Listable (lent p r w) c at) {l v : List ℕ} {a : Listed} {l' v' : List ℕ} (o : Lists (lent p r w) c l v a l' v') (el : length l ≡ 768) (ev : length v ≡ 768) where
   abbrev W : List Row
@@ -108,7 +101,7 @@ module _ {p : List Float} {r w : List ℕ} {c : Counts} {at : ℕ} (x : Listable
 
   -- so the listing does not refuse
   pub listed-not : {n q : ℕ} → a ≡ listed.Refused n q → {k i j : ℕ} {b d f : List ℕ} → Puts k b i d f j
-  listed-not z = absurd (refused-not (sym z ∙ got .answers))
+  listed-not z = done-never (sym z ∙ got .answers)
 
   module _ {n : ℕ} (z : a ≡ listed.Done n) where
     all : n ≡ length L

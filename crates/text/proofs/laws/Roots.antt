@@ -25,6 +25,7 @@ use Rattle.closure.proofs.laws.Accepted.{accepted-sound}
 use Rattle.closure.proofs.laws.Cutting.{member-at}
 use Rattle.closure.proofs.laws.Taken.{sound-rows}
 use Rattle.leaves.specs.Listing.{levelIn, listing}
+use Rattle.leaves.proofs.laws.Levels.{map-at}
 use Rattle.leaves.proofs.laws.Sound.{sound-listing}
 use Rattle.text.specs.Output.{leafLine, pLines, lLines, rootFrom, rootOf}
 use Rattle.text.specs.Input.{Input}
@@ -32,11 +33,6 @@ use Rattle.text.specs.Program.{headline, leafLines, rootedLine, rootedLi
 use Rattle.text.proofs.laws.Mesh.{texts-same}
 use Rattle.text.proofs.laws.Never.{opens-unsplit, opens-rows}
 use Rattle.text.proofs.laws.Putting.{root-here, root-over}
-
-map-at : (f : ℕ → ℕ) (l : List ℕ) (j : ℕ) → j < length l → getD (map f l) j 0 ≡ f (getD l j 0)
-map-at f [] j h = absurd (omega arith)
-map-at f (x ∷ l) zero h = refl
-map-at f (x ∷ l) (suc j) h = map-at f l j (omega arith)
 
 module _ {t : Lent} {c : Counts} (s : Sound t c) where
   -- the element of row k
