@@ -13,7 +13,7 @@ use Rattle.sound.specs.Sound.{rows, rowOf, Sound}
 use Rattle.sound.proofs.laws.Afresh.{root-depth}
 use Rattle.sound.proofs.laws.Placed.{placed, row-fits}
 use Rattle.closure.proofs.laws.Cutting.{member-at}
-use Rattle.leaves.specs.declared.answer.Listed.the-variants.{Done, Refused}
+use Rattle.leaves.specs.declared.answer.Listed.the-variants.{Done}
 use Rattle.leaves.specs.Level.{LevelAt}
 use Rattle.leaves.specs.Listing.{levelIn, listing}
 use Rattle.leaves.specs.Lists.{Accepts, Lists, unsound, sound, short, fits}

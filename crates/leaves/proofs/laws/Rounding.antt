@@ -29,7 +29,7 @@ module _ {n : ℕ} (some : 1 ≤ n) where
       product : suc k * n ≡ n * k + n
       product = rw (mul-comm (suc k) n) (mul-suc n k)
 
-  -- the two cases of the code
+  -- the code's two cases: it forms one less than the depth, so that no sum can outgrow a u32
   pub level-none : {d : ℕ} → d ≡ 0 → 0 ≡ levelOf n d
   level-none {d} e = omega (arith, rounded-up d 0 .1 (omega arith))
 
@@ -37,6 +37,7 @@ module _ {n : ℕ} (some : 1 ≤ n) where
   unfolding levelOf
   level-some {d} e = let s : d + (n - 1) ≡ d - 1 + n = omega (arith, some, e) in rw s (sym (add-div-right (d - 1) some))
 
+-- and it fits where the depth does
 pub level-fits : (d n : ℕ) → (d ≡ 0 → ⊥) → Fits w32 d → Fits w32 ((d - 1) / n + 1)
 level-fits d n some h = record { fits = omega (arith, h .fits, div-le-self (d - 1) n) }
 

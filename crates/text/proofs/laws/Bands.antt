@@ -1,6 +1,6 @@
 -- One run splits nothing of depth 3, so the level on an L line is 0 for a root and 1 for every other leaf.
-use mathlib.Core.Path.{_≡_, refl, sym, ap, _∙_}
-use mathlib.Core.List.{List, []}
+use mathlib.Core.Path.{_≡_, refl, sym, _∙_}
+use mathlib.Core.List.{List}
 use mathlib.Core.Logic.{_↔_, inl, inr}
 use Prim.Native.Nat.{ℕ, _≤_, _<_}
 use native.Mathlib.Omega.{arith}
@@ -8,7 +8,7 @@ use Rattle.split.proofs.laws.Places.{le-or-lt}
 use Rattle.tables.specs.declared.layout.Counts.{Counts}
 use Rattle.tables.specs.Mesh.{Lent, Mesh, meshOf}
 use Rattle.tables.proofs.laws.View.{mesh-row}
-use Rattle.forest.specs.Element.{Forest, Element, el, depth}
+use Rattle.forest.specs.Element.{Forest, Element, depth}
 use Rattle.forest.specs.Shallow.{Shallow}
 use Rattle.forest.specs.Union.{Either}
 use Rattle.forest.proofs.Theory.{forced-shallow}
