@@ -24,8 +24,8 @@ fn after_points(lines: &str) -> String {
 fn printed_example() {
     let expected = "C 0 5 3 1
 P 4 2 3 0000000000000000 3fe0000000000000 3fe0000000000000
-L 1 0 1 0 2 3 0 1 4
-L 2 0 1 0 2 0 1 2 4
+L 1 0 1 1 2 3 0 1 4
+L 2 0 1 1 2 0 1 2 4
 ";
     assert_eq!(run(&format!("{POINTS}T 0 1 2 3\nM 0\n")), expected);
 }

@@ -42,14 +42,14 @@ module _ {t : Lent} {c : Counts} (u : Unsplit t c) {marks : List ℕ} {d : Count
   all-roots h = omega (arith, h, sound-rows s, u .roots-are)
 
   -- the rows of an opened mesh are unsplit roots, so what is marked has depth 0
-  marked-shallow : (e : Element) → Either (SplitOf (meshOf t c) (s .roots)) (MarkedIn (meshOf t c) (s .roots) marks) e → Shallow F 1 e
-  marked-shallow e (inl w) = let h : w .row < c .rows = omega (arith, w .there, sound-rows s) in absurd (w .split (rw (mesh-row t c (w .row) h) (u .leaves (w .row) h)))
-  marked-shallow e (inr w) =
+  marked-in-first-band : (e : Element) → Either (SplitOf (meshOf t c) (s .roots)) (MarkedIn (meshOf t c) (s .roots) marks) e → Shallow F 1 e
+  marked-in-first-band e (inl w) = let h : w .row < c .rows = omega (arith, w .there, sound-rows s) in absurd (w .split (rw (mesh-row t c (w .row) h) (u .leaves (w .row) h)))
+  marked-in-first-band e (inr w) =
       let h = all-roots (accepted-markable s x (w .row) (w .listed) .there) in
       rw (sym (w .is) ∙ root-element (meshOf t c) (s .roots) (w .row) h) (record { root = h; shallow = omega arith })
 
-  split-shallow : (e : Element) → SplitOf (meshOf t' d) (s .roots) e → Shallow F 1 e
-  split-shallow e w = forced-shallow F (largestIn (meshOf t c) (s .initials)) (colourIn (meshOf t c) (s .initials)) (coloured (s .grown)) 1 marked-shallow e (accepted-demanded s x e .0 w)
+  splits-in-first-band : (e : Element) → SplitOf (meshOf t' d) (s .roots) e → Shallow F 1 e
+  splits-in-first-band e w = forced-shallow F (largestIn (meshOf t c) (s .initials)) (colourIn (meshOf t c) (s .initials)) (coloured (s .grown)) 1 marked-in-first-band e (accepted-demanded s x e .0 w)
 
   abbrev later : Sound t' d
   later = accepted-sound s x .sound
@@ -58,19 +58,19 @@ module _ {t : Lent} {c : Counts} (u : Unsplit t c) {marks : List ℕ} {d : Count
   m = meshOf t' d
 
   -- so a split row has depth below 3, and its children at most 3
-  parent-shallow : (q : ℕ) → q < rows m → (rowOf m q .child ≡ 0 → ⊥) → rowOf m q .depth < 3
-  parent-shallow q l h =
+  split-below-three : (q : ℕ) → q < rows m → (rowOf m q .child ≡ 0 → ⊥) → rowOf m q .depth < 3
+  split-below-three q l h =
       let e : depth (elementOf m (s .roots) q) ≡ rowOf m q .depth = rw (accepted-sound s x .roots) at (placed (later .grown) q l .depth) in
-      omega (arith, e, split-shallow (elementOf m (s .roots) q) (record { row = q; there = l; split = h; is = refl }) .shallow)
+      omega (arith, e, splits-in-first-band (elementOf m (s .roots) q) (record { row = q; there = l; split = h; is = refl }) .shallow)
 
-  row-shallow : (k : ℕ) → k < rows m → rowOf m k .depth ≤ 3
-  row-shallow k l = elim (le-or-lt (later .roots) k) [
-    | inl a ↦ let o = later .grown .child k a l in omega (arith, below-parent (later .grown) k a l, parent-shallow (rowOf m k .parent) (omega (arith, o .older)) (o .split))
+  row-up-to-three : (k : ℕ) → k < rows m → rowOf m k .depth ≤ 3
+  row-up-to-three k l = elim (le-or-lt (later .roots) k) [
+    | inl a ↦ let o = later .grown .child k a l in omega (arith, below-parent (later .grown) k a l, split-below-three (rowOf m k .parent) (omega (arith, o .older)) (o .split))
     | inr a ↦ omega (arith, root-depth (later .grown) k a)
   ]
 
   once-levels : (k : ℕ) → k < rows m → (levelIn (m .rows) k ≤ 1) × ((levelIn (m .rows) k ≡ 0) ↔ (rowOf m k .parent ≡ k))
-  once-levels k l = (row-rounded later k l 1 .1 (row-shallow k l), row-band later k l)
+  once-levels k l = (row-rounded later k l 1 .1 (row-up-to-three k l), row-band later k l)
 
 -- what the program prints of an accepted call: level 0 for a root, and 1 for every other row (02, L1)
 pub printed-levels : (i : Input) {c d : Counts} {n : ℕ} {t' : Lent} → opens i ≡ opened.Done c → Refines (openedTables i) c (i .marks) (refined.Done d n) t' → (k : ℕ) → k < d .rows
