@@ -5,14 +5,14 @@ use Rattle.chain.proofs.push.Reads as push
 use Rattle.chain.proofs.put.Reads as put
 use Rattle.chain.proofs.wide.Reads as wide
 
-pub push-determined : (κs : _) (a : _) (r r' : _) (s s' : _) → push.Learnt κs a r s → push.Learnt κs a r' s' → s.0.now ≡ s'.0.now
-push-determined κs a r r' s s' p q = p ∙ sym q
+pub push_determined : (κs : _) (a : _) (r r' : _) (s s' : _) → push.Learnt κs a r s → push.Learnt κs a r' s' → s.0.now ≡ s'.0.now
+push_determined κs a r r' s s' p q = p ∙ sym q
 
-pub wide-determined : (κs : _) (a : _) (r r' : _) (s s' : _) → wide.Learnt κs a r s → wide.Learnt κs a r' s' → r ≡ r'
-wide-determined κs a r r' s s' p q = p ∙ sym q
+pub wide_determined : (κs : _) (a : _) (r r' : _) (s s' : _) → wide.Learnt κs a r s → wide.Learnt κs a r' s' → r ≡ r'
+wide_determined κs a r r' s s' p q = p ∙ sym q
 
-pub put-determined : (κs : _) (a : _) (r r' : _) (s s' : _) → put.Learnt κs a r s → put.Learnt κs a r' s' → s.0.now ≡ s'.0.now
-put-determined κs a r r' s s' p q = p ∙ sym q
+pub put_determined : (κs : _) (a : _) (r r' : _) (s s' : _) → put.Learnt κs a r s → put.Learnt κs a r' s' → s.0.now ≡ s'.0.now
+put_determined κs a r r' s s' p q = p ∙ sym q
 
-pub clear-determined : (κs : _) (a : _) (r r' : _) (s s' : _) → clear.Learnt κs a r s → clear.Learnt κs a r' s' → s.0.now ≡ s'.0.now
-clear-determined κs a r r' s s' p q = p ∙ sym q
+pub clear_determined : (κs : _) (a : _) (r r' : _) (s s' : _) → clear.Learnt κs a r s → clear.Learnt κs a r' s' → s.0.now ≡ s'.0.now
+clear_determined κs a r r' s s' p q = p ∙ sym q

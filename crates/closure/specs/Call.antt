@@ -7,11 +7,11 @@ use Rattle.intake.specs.declared.answer.Verdict.TheVariants.{Passed}
 use Rattle.sound.specs.Sound.{Sound}
 use Rattle.sound.specs.Check.{lent}
 use Rattle.run.specs.Run.{RunAll}
-use Rattle.frame.specs.Marks.{onMarks}
+use Rattle.frame.specs.Marks.{on_marks}
 use Rattle.frame.specs.Points.{filled}
 use Rattle.closure.specs.declared.answer.Refined.{Refined}
 use Rattle.closure.specs.declared.answer.Refined.TheVariants.{Done}
-use Rattle.closure.specs.State.{scratchFor}
+use Rattle.closure.specs.State.{scratch_for}
 use Rattle.closure.specs.Build.{Headless}
 use Rattle.closure.specs.Refine.{OnRoom, OnMarks}
 
@@ -22,7 +22,7 @@ pub record Finishes (p : List Float) (r : List ℕ) (c d : Counts) (o : Refined)
 pub record Closable (p : List Float) (r w s : List ℕ) (c : Counts) (marks : List ℕ) : Type 0 where
   pub sound : Sound (lent p r w) c
   pub fresh : Headless w s
-  pub passed : onMarks w c.rows marks ≡ Passed
+  pub passed : on_marks w c.rows marks ≡ Passed
 
 -- the answer and the tables as `OnRoom` has them, however the tables are shown to be sound
 pub record Closes (t : Lent) (c : Counts) (marks : List ℕ) (o : Refined) (t' : Lent) : Type 0 where
@@ -30,7 +30,7 @@ pub record Closes (t : Lent) (c : Counts) (marks : List ℕ) (o : Refined) (t' :
 
 -- so many numbers are enough memory for an element table of w: for closure, and for the check before it
 pub record Spacious (w memory : ℕ) : Type 0 where
-  pub closure : scratchFor w ≤ memory
+  pub closure : scratch_for w ≤ memory
   pub check : 36382 ≤ memory
 
 pub record Callable (p : List Float) (r w s : List ℕ) (c : Counts) : Type 0 where

@@ -3,22 +3,22 @@ use Rattle.std.specs.Prelude.{ℕ, suc, ◌≤◌, ◌<◌, max, ◌≡◌, Bool
 use Rattle.split.specs.declared.point.Point.{Point}
 use Rattle.split.specs.Exact.{Whole}
 use Rattle.tables.specs.Mesh.{Mesh}
-use Rattle.sound.specs.Sound.{vertices, point_of, recordOf}
+use Rattle.sound.specs.Sound.{vertices, point_of, record_of}
 
 pub data Axis : Type 0 where
-  x-axis : Axis
-  y-axis : Axis
-  z-axis : Axis
+  x_axis : Axis
+  y_axis : Axis
+  z_axis : Axis
 
 abbrev pub along : Axis → Point → Float
-along x-axis p = p.x
-along y-axis p = p.y
-along z-axis p = p.z
+along x_axis p = p.x
+along y_axis p = p.y
+along z_axis p = p.z
 
 -- where i vertices are initial, k midpoint steps lead to v: none to an initial vertex, and one more than to the later of its parents to a midpoint
 pub data Steps (m : Mesh) (i : ℕ) : ℕ → ℕ → Type 0 where
   initial : {v k : ℕ} → v < i → k ≡ 0 → Steps m i v k
-  midpoint : {v a b k : ℕ} → i ≤ v → v < vertices m → Steps m i (recordOf m v).first a → Steps m i (recordOf m v).second b → k ≡ suc (max a b) → Steps m i v k
+  midpoint : {v a b k : ℕ} → i ≤ v → v < vertices m → Steps m i (record_of m v).first a → Steps m i (record_of m v).second b → k ≡ suc (max a b) → Steps m i v k
 
 -- the coordinate of each initial vertex is a whole number of magnitude at most 2 ^ 30
 pub record WholeStart (m : Mesh) (i : ℕ) (w : Axis) : Type 0 where

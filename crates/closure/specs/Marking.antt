@@ -62,8 +62,8 @@ pub record Failed (S : Skeleton) (marks : List ℕ) (room : Size) (r w s : List 
   pub tables : Tables r w s d room
 
 pub record Marks (r w : List ℕ) (c : Counts) (room : Size) (marks : List ℕ) (o : Step) (r' w' s' : List ℕ) : Type 0 where
-  pub records-size : length r' ≡ length r
-  pub rows-size : length w' ≡ length w
+  pub records_size : length r' ≡ length r
+  pub rows_size : length w' ≡ length w
   pub done : (d : Counts) → o ≡ Done d → Ended (seen r w c) marks room r' w' s' d
   pub full : (d : Counts) → o ≡ Full d → Failed (seen r w c) marks room r' w' s' d
 
@@ -74,6 +74,6 @@ pub record Marking (r₀ w₀ s₀ : List ℕ) (c : Counts) (room : Size) (marks
   pub runs : (U : Skeleton) → RunAll (seen r w d) (drop j marks) U → RunAll (seen r₀ w₀ c) marks U
   pub stuck : StuckAll room (seen r w d) (drop j marks) → StuckAll room (seen r₀ w₀ c) marks
   pub reach : Reach (seen r₀ w₀ c) (seen r w d)
-  pub records-size : length r ≡ length r₀
-  pub rows-size : length w ≡ length w₀
-  pub scratch-size : length s ≡ length s₀
+  pub records_size : length r ≡ length r₀
+  pub rows_size : length w ≡ length w₀
+  pub scratch_size : length s ≡ length s₀

@@ -2,8 +2,8 @@
 use Rattle.std.specs.Prelude.{◌≡◌, Bool, List, ℕ, ◌-◌, ◌/◌, leb, length, get_or}
 use Rattle.tables.specs.declared.layout.Counts.{Counts}
 use Rattle.tables.specs.declared.layout.Size.{Size}
-use Rattle.tables.specs.Layout.{roomOf, resized}
-use Rattle.tables.specs.Mesh.{Lent, meshOf, laid}
+use Rattle.tables.specs.Layout.{room_of, resized}
+use Rattle.tables.specs.Mesh.{Lent, mesh_of, laid}
 use Rattle.tables.specs.Report.{Report, refusal, done}
 use Rattle.intake.specs.declared.answer.Found.TheVariants.{At, Nowhere}
 use Rattle.intake.specs.Search.{first}
@@ -18,8 +18,8 @@ use Rattle.closure.specs.declared.answer.Refined.TheVariants.{Done, Refused}
 abbrev pub absent : ℕ → List ℕ → ℕ → Bool
 absent rows marks j = leb rows (get_or marks j 0)
 
-abbrev pub roomIn : Lent → Size
-roomIn t = roomOf (length t.points) (length t.records) (length t.rows)
+abbrev pub room_in : Lent → Size
+room_in t = room_of (length t.points) (length t.records) (length t.rows)
 
 -- the numbers that each case of the answer stands for (01, "What comes back")
 abbrev pub reported : Refined → Report
@@ -39,20 +39,20 @@ Engine = Skeleton → List ℕ → Skeleton → Type 0
 -- accepted: the tables are those that the engine leads to over all marks, with the midpoints' points after the rule and zeros to the end; each split added two rows
 pub record Accepts (E : Engine) (t : Lent) (c : Counts) (marks : List ℕ) (r : Refined) (t' : Lent) : Type 0 where
   pub after : Skeleton
-  pub run : E (skeleton (meshOf t c)) marks after
+  pub run : E (skeleton (mesh_of t c)) marks after
   pub answers : r ≡ Done (resized c (length after.records) (length after.rows)) ((length after.rows - c.rows) / 2)
   pub reports : reported r ≡ done (resized c (length after.records) (length after.rows)) ((length after.rows - c.rows) / 2)
-  pub leaves : t' ≡ laid (meshed (meshOf t c).points after) (length t.points) (length t.records) (length t.rows)
+  pub leaves : t' ≡ laid (meshed (mesh_of t c).points after) (length t.points) (length t.records) (length t.rows)
 
 -- number 2: what is needed outgrows the room
 pub data OnRoom (E : Engine) (t : Lent) (c : Counts) (i roots : ℕ) (marks : List ℕ) (r : Refined) (t' : Lent) : Type 0 where
-  outgrown : Outgrows (roomIn t) (meshOf t c) i roots marks → Refuses t 2 0 r t' → OnRoom E t c i roots marks r t'
-  fits : (Outgrows (roomIn t) (meshOf t c) i roots marks → ⊥) → Accepts E t c marks r t' → OnRoom E t c i roots marks r t'
+  outgrown : Outgrows (room_in t) (mesh_of t c) i roots marks → Refuses t 2 0 r t' → OnRoom E t c i roots marks r t'
+  fits : (Outgrows (room_in t) (mesh_of t c) i roots marks → ⊥) → Accepts E t c marks r t' → OnRoom E t c i roots marks r t'
 
--- number 11, before 2: what is needed would split an element of depth 60. When that is so the marks alone tell: `refused-deep` of proofs/laws/Refusals.antt (02, L9)
+-- number 11, before 2: what is needed would split an element of depth 60. When that is so the marks alone tell: `refused_deep` of proofs/laws/Refusals.antt (02, L9)
 pub data OnDepth (E : Engine) (t : Lent) (c : Counts) (i roots : ℕ) (marks : List ℕ) (r : Refined) (t' : Lent) : Type 0 where
-  deep : Deep (meshOf t c) roots marks → Refuses t 11 0 r t' → OnDepth E t c i roots marks r t'
-  shallow : (Deep (meshOf t c) roots marks → ⊥) → OnRoom E t c i roots marks r t' → OnDepth E t c i roots marks r t'
+  deep : Deep (mesh_of t c) roots marks → Refuses t 11 0 r t' → OnDepth E t c i roots marks r t'
+  shallow : (Deep (mesh_of t c) roots marks → ⊥) → OnRoom E t c i roots marks r t' → OnDepth E t c i roots marks r t'
 
 -- number 10, before 11: a mark that is not below the row count, at its first position
 pub data OnMarks (E : Engine) (t : Lent) (c : Counts) (i roots : ℕ) (marks : List ℕ) (r : Refined) (t' : Lent) : Type 0 where

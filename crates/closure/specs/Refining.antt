@@ -2,31 +2,31 @@
 use Rattle.std.specs.Prelude.{◌≡◌, Bool, ◌&&◌, List, ℕ, ◌+◌, ◌*◌, ◌/◌, ◌≤◌, ◌<◌, ltb, leb, length}
 use Rattle.split.specs.declared.point.Point.{Point}
 use Rattle.split.specs.Split.{Distinct}
-use Rattle.split.specs.Row.{cornersOf, edge_of}
+use Rattle.split.specs.Row.{corners_of, edge_of}
 use Rattle.tables.specs.declared.layout.Counts.{Counts}
 use Rattle.tables.specs.declared.layout.Size.{Size}
-use Rattle.tables.specs.Layout.{rowWidth, recordWidth, noRecord, recordAt, row_at, mostRows, mostVertices}
+use Rattle.tables.specs.Layout.{row_width, record_width, no_record, record_at, row_at, most_rows, most_vertices}
 use Rattle.intake.specs.declared.answer.Found.TheVariants.{Nowhere}
 use Rattle.run.specs.Skeleton.{Skeleton}
-use Rattle.run.specs.Ready.{Ready, Open, Reach, rankIn}
+use Rattle.run.specs.Ready.{Ready, Open, Reach, rank_in}
 use Rattle.run.specs.Run.{holders, blocking, Run, Stuck}
 use Rattle.closure.specs.declared.step.Look.{Look}
 use Rattle.closure.specs.declared.step.Patch.{Patch}
 use Rattle.closure.specs.declared.step.Patch.TheVariants as patch
 use Rattle.closure.specs.declared.step.Step.{Step}
 use Rattle.closure.specs.declared.step.Step.TheVariants.{Done, Full}
-use Rattle.closure.specs.State.{rows_of, seen, patchIn, State}
+use Rattle.closure.specs.State.{rows_of, seen, patch_in, State}
 
 -- the tables hold a mesh of these counts within the room, and zeros after it
 pub record Tables (r w s : List ℕ) (c : Counts) (room : Size) : Type 0 where
   pub state : State w s c.rows
-  pub vertices-in : c.vertices ≤ room.vertices
+  pub vertices_in : c.vertices ≤ room.vertices
   pub rows_in : c.rows ≤ room.rows
-  pub few-vertices : room.vertices ≤ mostVertices
-  pub few-rows : room.rows ≤ mostRows
-  pub records-fit : room.vertices ≤ length r / recordWidth
-  pub rows_fit : room.rows ≤ length w / rowWidth
-  pub blank : (v : ℕ) → c.vertices ≤ v → recordAt r v ≡ noRecord
+  pub few_vertices : room.vertices ≤ most_vertices
+  pub few_rows : room.rows ≤ most_rows
+  pub records_fit : room.vertices ≤ length r / record_width
+  pub rows_fit : room.rows ≤ length w / row_width
+  pub blank : (v : ℕ) → c.vertices ≤ v → record_at r v ≡ no_record
 
 -- with some points for its vertices the mesh is sound, and q is a leaf that may be split
 pub record Sure (r w s : List ℕ) (c : Counts) (room : Size) (q : ℕ) : Type 0 where
@@ -57,12 +57,12 @@ pub record Refines (r w : List ℕ) (c : Counts) (room : Size) (q : ℕ) (o : St
 -- ---- the patch
 
 -- one vertex more and the children of k leaves fit
-unfoldable pub fitsIn : Size → Counts → ℕ → Bool
-fitsIn room d k = ltb d.vertices room.vertices && leb (d.rows + 2 * k) room.rows
+unfoldable pub fits_in : Size → Counts → ℕ → Bool
+fits_in room d k = ltb d.vertices room.vertices && leb (d.rows + 2 * k) room.rows
 
 -- the k listed leaves are the patch of q's edge
 pub record Patched (w s : List ℕ) (n q k : ℕ) : Type 0 where
-  pub patch : patchIn s k ≡ holders (rows_of w n) (edge_of (row_at w q))
+  pub patch : patch_in s k ≡ holders (rows_of w n) (edge_of (row_at w q))
   pub size : k ≤ n
 
 -- and no leaf blocks it
@@ -75,7 +75,7 @@ pub record Cuttable (r w s : List ℕ) (d : Counts) (room : Size) (q k : ℕ) : 
 
 pub record Lookable (w s : List ℕ) (n q : ℕ) : Type 0 where
   pub state : State w s n
-  pub distinct : (r : ℕ) → r < n → Distinct 3 (cornersOf (row_at w r))
+  pub distinct : (r : ℕ) → r < n → Distinct 3 (corners_of (row_at w r))
   pub there : q < n
 
 pub record Looks (w : List ℕ) (n q : ℕ) (o : Look) (s : List ℕ) : Type 0 where
@@ -95,10 +95,10 @@ pub record Clearing (r₀ w₀ s₀ : List ℕ) (c : Counts) (room : Size) (q : 
   pub sure : Sure r w s d room q
   pub towards : Towards room (seen r₀ w₀ c) q (seen r w d)
   pub reach : Reach (seen r₀ w₀ c) (seen r w d)
-  pub rank : rankIn (seen r w d) q ≡ rankIn (seen r₀ w₀ c) q
-  pub records-size : length r ≡ length r₀
-  pub rows-size : length w ≡ length w₀
-  pub scratch-size : length s ≡ length s₀
+  pub rank : rank_in (seen r w d) q ≡ rank_in (seen r₀ w₀ c) q
+  pub records_size : length r ≡ length r₀
+  pub rows_size : length w ≡ length w₀
+  pub scratch_size : length s ≡ length s₀
 
 -- no leaf blocks the patch any more
 pub record Cleared (S : Skeleton) (q : ℕ) (room : Size) (r w s : List ℕ) (d : Counts) (k : ℕ) : Type 0 where

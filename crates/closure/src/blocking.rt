@@ -2,8 +2,8 @@
 ghost use Rattle.std.specs.Prelude.{◌≡◌};
 ghost use Rattle.split.specs.Row.{edge_of};
 ghost use Rattle.tables.specs.Layout.{row_at};
-ghost use Rattle.run.specs.Run.{sameEnds, otherIn};
-ghost use Rattle.closure.specs.State.{rows_of, patchIn, Listed};
+ghost use Rattle.run.specs.Run.{same_ends, other_in};
+ghost use Rattle.closure.specs.State.{rows_of, patch_in, Listed};
 
 use crate::index::LINKS;
 use chain::wide;
@@ -11,7 +11,7 @@ use intake::answer::Found;
 use split::row::Ends;
 
 fn same_ends(e: Ends, f: Ends) -> bool
-    ensures { result ≡ sameEnds e f }
+    ensures { result ≡ same_ends e f }
 {
     if e.small != f.small {
         return false;
@@ -21,7 +21,7 @@ fn same_ends(e: Ends, f: Ends) -> bool
 
 // Whether row r has the edge e.
 fn has_edge(rows: &[u32], r: usize, e: Ends) -> bool
-    ensures { result ≡ sameEnds (edge_of (row_at rows.now r)) e }
+    ensures { result ≡ same_ends (edge_of (row_at rows.now r)) e }
 {
     same_ends(split::row::edge(tables::row::read(rows, r)), e)
 }
@@ -29,7 +29,7 @@ fn has_edge(rows: &[u32], r: usize, e: Ends) -> bool
 // The first of the k listed leaves whose own edge is not e.
 pub fn first_other(rows: &[u32], scratch: &[u32], n: usize, k: usize, e: Ends) -> Found
     requires { Listed scratch.now n k }
-    ensures { result ≡ otherIn (rows_of rows.now n) e (patchIn scratch.now k) }
+    ensures { result ≡ other_in (rows_of rows.now n) e (patch_in scratch.now k) }
 {
     let from = scratch.len() - (LINKS + k);
     let mut j = 0usize;

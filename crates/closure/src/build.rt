@@ -1,15 +1,15 @@
 // The index over rows that stand, built before closure works on them.
 ghost use Rattle.std.specs.Prelude.{◌≡◌, ◌+◌, ◌*◌, ◌<◌, length};
-ghost use Rattle.tables.specs.Layout.{row_at, mostRows};
-ghost use Rattle.closure.specs.State.{linksAt, rowPushed, State};
+ghost use Rattle.tables.specs.Layout.{row_at, most_rows};
+ghost use Rattle.closure.specs.State.{links_at, row_pushed, State};
 ghost use Rattle.closure.specs.Build.{Indexable};
 
 use crate::index::index_row;
 
 fn index_standing(rows: &[u32], scratch: &mut [u32], k: usize)
-    requires k_lt_most_rows { k < mostRows }
-    requires k_in_bounds { 2 * linksAt + 4 * k + 3 < length scratch.old }
-    ensures { scratch.new ≡ rowPushed scratch.old k (row_at rows.now k) }
+    requires k_lt_most_rows { k < most_rows }
+    requires k_in_bounds { 2 * links_at + 4 * k + 3 < length scratch.old }
+    ensures { scratch.new ≡ row_pushed scratch.old k (row_at rows.now k) }
 {
     index_row(scratch, k, tables::row::read(rows, k));
 }

@@ -1,9 +1,9 @@
 // The patch of a leaf that no leaf blocks: one vertex appended, and all its leaves split (document 01, "Closure").
 ghost use Rattle.std.specs.Prelude.{◌≡◌, ◌+◌, ◌*◌, ◌≤◌};
 ghost use Rattle.split.specs.Row.{edge_of};
-ghost use Rattle.tables.specs.Layout.{row_at, putRecord, mostRows};
-ghost use Rattle.run.specs.Run.{recordFor};
-ghost use Rattle.closure.specs.Refining.{Cuttable, Refines, fitsIn};
+ghost use Rattle.tables.specs.Layout.{row_at, put_record, most_rows};
+ghost use Rattle.run.specs.Run.{record_for};
+ghost use Rattle.closure.specs.Refining.{Cuttable, Refines, fits_in};
 
 use crate::patch::split_patch;
 use crate::step::Step;
@@ -13,9 +13,9 @@ use tables::record::Record;
 
 // Whether one vertex more and the children of k leaves fit.
 fn fits(d: Counts, room: Size, k: usize) -> bool
-    requires rows_le_most_rows { d.rows ≤ mostRows }
-    requires k_le_most_rows { k ≤ mostRows }
-    ensures { result ≡ fitsIn room d k }
+    requires rows_le_most_rows { d.rows ≤ most_rows }
+    requires k_le_most_rows { k ≤ most_rows }
+    ensures { result ≡ fits_in room d k }
 {
     if room.vertices <= d.vertices {
         return false;
@@ -32,7 +32,7 @@ pub fn edge_of(rows: &[u32], q: usize) -> Ends
 
 // Appends the record of the midpoint of e.
 fn record_edge(records: &mut [u32], n: usize, e: Ends)
-    ensures { records.new ≡ putRecord records.old n (recordFor e) }
+    ensures { records.new ≡ put_record records.old n (record_for e) }
 {
     let midpoint = Record {
         first: e.small,

@@ -1,8 +1,8 @@
 // The patch of an edge: the leaves holding both its ends, found through the corners of one end (document 01, "Closure").
 ghost use Rattle.std.specs.Prelude.{◌≡◌, cond, ◌+◌, ◌-◌, ◌≤◌, ◌<◌, length, set};
-ghost use Rattle.tables.specs.Layout.{row_at, mostRows};
+ghost use Rattle.tables.specs.Layout.{row_at, most_rows};
 ghost use Rattle.run.specs.Run as run;
-ghost use Rattle.closure.specs.State.{linksAt, once, leafWith, otherEnd, Gatherable, Gathers};
+ghost use Rattle.closure.specs.State.{links_at, once, leaf_with, other_end, Gatherable, Gathers};
 
 use crate::index::LINKS;
 use chain::wide;
@@ -25,7 +25,7 @@ fn has(r: Row, v: u32) -> bool
 
 // Whether row k is a leaf holding v.
 fn leaf_with(rows: &[u32], k: usize, v: u32) -> bool
-    ensures { result ≡ leafWith v (row_at rows.now k) }
+    ensures { result ≡ leaf_with v (row_at rows.now k) }
 {
     let held = tables::row::read(rows, k);
     if held.child != 0 {
@@ -36,7 +36,7 @@ fn leaf_with(rows: &[u32], k: usize, v: u32) -> bool
 
 // The end of e that its end a is not.
 fn other(e: Ends, a: u32) -> u32
-    ensures { result ≡ otherEnd e a }
+    ensures { result ≡ other_end e a }
 {
     if e.small == a {
         return e.large;
@@ -46,11 +46,11 @@ fn other(e: Ends, a: u32) -> u32
 
 // Lists row q before the k rows already listed, where it is a leaf holding b, and answers how many are listed then.
 fn keep(rows: &[u32], scratch: &mut [u32], q: usize, b: u32, k: usize) -> usize
-    requires k_in_bounds { linksAt + k < length scratch.old }
-    requires k_lt_most_rows { k < mostRows }
-    requires q_lt_most_rows { q < mostRows }
-    ensures value { result ≡ cond (leafWith b (row_at rows.now q)) (k + 1) k }
-    ensures scratch_after { scratch.new ≡ cond (leafWith b (row_at rows.now q)) (set scratch.old (length scratch.old - (linksAt + (k + 1))) q) scratch.old }
+    requires k_in_bounds { links_at + k < length scratch.old }
+    requires k_lt_most_rows { k < most_rows }
+    requires q_lt_most_rows { q < most_rows }
+    ensures value { result ≡ cond (leaf_with b (row_at rows.now q)) (k + 1) k }
+    ensures scratch_after { scratch.new ≡ cond (leaf_with b (row_at rows.now q)) (set scratch.old (length scratch.old - (links_at + (k + 1))) q) scratch.old }
 {
     if !leaf_with(rows, q, b) {
         return k;

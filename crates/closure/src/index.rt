@@ -1,8 +1,8 @@
 // The index of corner slots: place 4 n + q has the key vertex q of row n. In the scratch table stand the heads and the links; at its end, whatever its length, how often each vertex is used; and before these, growing downwards, the patch that is being looked at.
 ghost use Rattle.std.specs.Prelude.{◌≡◌, ◌+◌, ◌*◌, ◌<◌, length};
 ghost use Rattle.chain.specs.Chain.{pushed};
-ghost use Rattle.tables.specs.Layout.{mostRows};
-ghost use Rattle.closure.specs.State.{linksAt, bumped, counted, entered, rowPushed, EndOf};
+ghost use Rattle.tables.specs.Layout.{most_rows};
+ghost use Rattle.closure.specs.State.{links_at, bumped, counted, entered, row_pushed, EndOf};
 
 use chain::wide;
 use split::row::{Ends, Row};
@@ -18,10 +18,10 @@ fn bump(u: u32) -> u32
 
 // Slot i, with the vertex k, in the index.
 fn link(scratch: &mut [u32], i: usize, k: usize)
-    requires k_lt_links_at { k < linksAt }
-    requires i_bound { i < 4 * mostRows }
-    requires i_in_bounds { linksAt + i < length scratch.old }
-    ensures { scratch.new ≡ pushed scratch.old linksAt i k }
+    requires k_lt_links_at { k < links_at }
+    requires i_bound { i < 4 * most_rows }
+    requires i_in_bounds { links_at + i < length scratch.old }
+    ensures { scratch.new ≡ pushed scratch.old links_at i k }
 {
     scratch[LINKS + i] = scratch[k];
     scratch[k] = (i + 1) as u32;
@@ -29,8 +29,8 @@ fn link(scratch: &mut [u32], i: usize, k: usize)
 
 // One use of the vertex k more.
 fn count(scratch: &mut [u32], k: usize)
-    requires k_lt_links_at { k < linksAt }
-    requires links_at_in_bounds { linksAt < length scratch.old }
+    requires k_lt_links_at { k < links_at }
+    requires links_at_in_bounds { links_at < length scratch.old }
     ensures { scratch.new ≡ counted scratch.old k }
 {
     let at = scratch.len() - LINKS + k;
@@ -39,8 +39,8 @@ fn count(scratch: &mut [u32], k: usize)
 
 // Slot i with its vertex v in the index, and one use of v more. A number that no vertex has changes nothing.
 fn enter(scratch: &mut [u32], i: usize, v: u32)
-    requires i_bound { i < 4 * mostRows }
-    requires i_in_bounds { 2 * linksAt + i < length scratch.old }
+    requires i_bound { i < 4 * most_rows }
+    requires i_in_bounds { 2 * links_at + i < length scratch.old }
     ensures { scratch.new ≡ entered scratch.old i v }
 {
     let k = wide(v);
@@ -53,9 +53,9 @@ fn enter(scratch: &mut [u32], i: usize, v: u32)
 
 // Row n in the index, and its corners counted.
 pub fn index_row(scratch: &mut [u32], n: usize, r: Row)
-    requires n_lt_most_rows { n < mostRows }
-    requires n_in_bounds { 2 * linksAt + 4 * n + 3 < length scratch.old }
-    ensures { scratch.new ≡ rowPushed scratch.old n r }
+    requires n_lt_most_rows { n < most_rows }
+    requires n_in_bounds { 2 * links_at + 4 * n + 3 < length scratch.old }
+    ensures { scratch.new ≡ row_pushed scratch.old n r }
 {
     let s = 4 * n;
     enter(scratch, s, r.v0);

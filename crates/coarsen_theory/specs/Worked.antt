@@ -2,16 +2,16 @@
 use Rattle.std.specs.Prelude.{List, [], ◌∷◌, ◌++◌, ℕ}
 use Rattle.split.specs.declared.row.Row.{Row}
 use Rattle.tables.specs.declared.record.Record.{Record}
-use Rattle.tables.specs.Layout.{rowFrom}
+use Rattle.tables.specs.Layout.{row_from}
 use Rattle.tables.specs.Mesh.{Mesh}
-use Rattle.coarsen_theory.specs.Dropping.{none, goneBy, passedOver}
-use Rattle.coarsen_theory.specs.Thinned.{thinned, vertexMap, rowMap}
+use Rattle.coarsen_theory.specs.Dropping.{none, gone_by, passed_over}
+use Rattle.coarsen_theory.specs.Thinned.{thinned, vertex_map, row_map}
 
 pub record Outcome : Type 0 where
   pub records : List Record
   pub rows : List Row
-  pub vertex-map : List ℕ
-  pub row-map : List ℕ
+  pub vertex_map : List ℕ
+  pub row_map : List ℕ
   pub passed : ℕ
 
 pub record Case : Type 0 where
@@ -29,13 +29,13 @@ coloured c = of c 4294967295
 
 -- v0 v1 v2 v3, tag, parent, first child, depth
 abbrev row : ℕ → ℕ → ℕ → ℕ → ℕ → ℕ → ℕ → ℕ → Row
-row a b c d g p k n = rowFrom (a ∷ b ∷ c ∷ d ∷ g ∷ p ∷ k ∷ n ∷ []) 0
+row a b c d g p k n = row_from (a ∷ b ∷ c ∷ d ∷ g ∷ p ∷ k ∷ n ∷ []) 0
 
 abbrev mesh : List Record → List Row → Mesh
 mesh records rows = record { points = []; records = records; rows = rows }
 
 abbrev outcome : List Record → List Row → List ℕ → List ℕ → ℕ → Outcome
-outcome records rows vertices rows' passed = record { records = records; rows = rows; vertex-map = vertices; row-map = rows'; passed = passed }
+outcome records rows vertices rows' passed = record { records = records; rows = rows; vertex_map = vertices; row_map = rows'; passed = passed }
 
 abbrev case : Mesh → ℕ → List ℕ → Outcome → Case
 case m i l o = record { mesh = m; initials = i; list = l; outcome = o }
@@ -77,9 +77,9 @@ worked =
 -- what the definitions give
 unfoldable pub computed : Case → Outcome
 computed c = record {
-  records = (thinned c.mesh c.initials (goneBy c.mesh c.initials c.list)).records;
-  rows = (thinned c.mesh c.initials (goneBy c.mesh c.initials c.list)).rows;
-  vertex-map = vertexMap c.mesh (goneBy c.mesh c.initials c.list);
-  row-map = rowMap c.mesh (goneBy c.mesh c.initials c.list);
-  passed = passedOver c.mesh c.initials none c.list;
+  records = (thinned c.mesh c.initials (gone_by c.mesh c.initials c.list)).records;
+  rows = (thinned c.mesh c.initials (gone_by c.mesh c.initials c.list)).rows;
+  vertex_map = vertex_map c.mesh (gone_by c.mesh c.initials c.list);
+  row_map = row_map c.mesh (gone_by c.mesh c.initials c.list);
+  passed = passed_over c.mesh c.initials none c.list;
 }

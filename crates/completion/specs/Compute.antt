@@ -4,14 +4,14 @@ use Rattle.std.proofs.Math.Option.{Option, none, some}
 use Rattle.intake.specs.declared.answer.Found.TheVariants.{At, Nowhere}
 use Rattle.run.specs.Skeleton.{Skeleton}
 use Rattle.run.specs.Compute.{and_then}
-use Rattle.completion.specs.Completion.{lowest, splitOne, splitMarks}
+use Rattle.completion.specs.Completion.{lowest, split_one, split_marks}
 
 -- the loop; nothing where the steps do not suffice
 unfoldable pub looped : ℕ → Skeleton → Option Skeleton
 looped zero S = none
-looped (suc n) S = elim (lowest S) [ Nowhere ↦ some S | At q ↦ looped n (splitOne S q) ]
+looped (suc n) S = elim (lowest S) [ Nowhere ↦ some S | At q ↦ looped n (split_one S q) ]
 
 -- one call after the other, each given by its marks
-unfoldable pub completeCalls : ℕ → Skeleton → List (List ℕ) → Option Skeleton
-completeCalls n S [] = some S
-completeCalls n S (c ∷ cs) = and_then (looped n (splitMarks S c)) (λ T. completeCalls n T cs)
+unfoldable pub complete_calls : ℕ → Skeleton → List (List ℕ) → Option Skeleton
+complete_calls n S [] = some S
+complete_calls n S (c ∷ cs) = and_then (looped n (split_marks S c)) (λ T. complete_calls n T cs)

@@ -3,7 +3,7 @@
 ghost use Rattle.std.specs.Prelude.{◌≡◌, ◌<◌};
 ghost use Rattle.std.specs.Float.{binary64};
 ghost use Rattle.std.specs.Float.Ieee.{of_bits, to_bits};
-ghost use Rattle.fields.specs.Digits.{worthOf, value_of, number_of, hexOf, Narrow};
+ghost use Rattle.fields.specs.Digits.{worth_of, value_of, number_of, hex_of, Narrow};
 
 // The number that a text spells, if any.
 #[derive(Drop)]
@@ -14,7 +14,7 @@ pub enum Value {
 
 // What a byte is worth as a digit; 16 where it is none.
 fn worth(x: u8) -> u64
-    ensures { result ≡ worthOf x }
+    ensures { result ≡ worth_of x }
 {
     if x < 48 {
         return 16;
@@ -69,7 +69,7 @@ pub fn number(text: &[u8]) -> Value
 
 // Sixteen hexadecimal digits in lower case.
 pub fn hex(text: &[u8]) -> Value
-    ensures { result ≡ hexOf text.now }
+    ensures { result ≡ hex_of text.now }
 {
     if text.len() == 16 {
         return spells(text, 16);

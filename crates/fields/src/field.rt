@@ -1,13 +1,13 @@
 // Lines and fields: the parts of a text between separators.
 
 ghost use Rattle.std.specs.Prelude.{◌≡◌, ◌+◌, length};
-ghost use Rattle.fields.specs.Field.{parts, stopOf, next_of, start_of, field_of, tickOf, letterOf, shapedAs};
+ghost use Rattle.fields.specs.Field.{parts, stop_of, next_of, start_of, field_of, tick_of, letter_of, shaped_as};
 
 pub const TAB: u8 = 9;
 
 // Where the first separator at or after `from` stands, or the text's length.
 pub fn stop(text: &[u8], from: usize, separator: u8) -> usize
-    ensures { result ≡ stopOf separator text.now from }
+    ensures { result ≡ stop_of separator text.now from }
 {
     let mut i = from;
     while i < text.len() {
@@ -52,7 +52,7 @@ pub fn field(line: &[u8], k: usize) -> &[u8]
 }
 
 fn tick(x: u8) -> usize
-    ensures { result ≡ tickOf x }
+    ensures { result ≡ tick_of x }
 {
     if x == TAB {
         return 1;
@@ -75,7 +75,7 @@ fn tabs(line: &[u8]) -> usize
 
 // The letter that is a line's first field, or 0.
 fn letter(line: &[u8]) -> u8
-    ensures { result ≡ letterOf line.now }
+    ensures { result ≡ letter_of line.now }
 {
     let first = field(line, 0);
     if first.len() == 1 {
@@ -86,7 +86,7 @@ fn letter(line: &[u8]) -> u8
 
 // The line is this letter and this many fields more.
 pub fn shaped(line: &[u8], c: u8, n: usize) -> bool
-    ensures { result ≡ shapedAs line.now c n }
+    ensures { result ≡ shaped_as line.now c n }
 {
     if letter(line) == c {
         return tabs(line) == n;

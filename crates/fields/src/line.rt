@@ -1,7 +1,7 @@
 // One read line.
 ghost use Rattle.std.specs.Prelude.{◌≡◌};
-ghost use Rattle.fields.specs.Line.{vertexOf, elementOf, mark_of, line_of, Small};
-ghost use Rattle.fields.specs.Digits.{number_of, hexOf};
+ghost use Rattle.fields.specs.Line.{vertex_of, element_of, mark_of, line_of, Small};
+ghost use Rattle.fields.specs.Digits.{number_of, hex_of};
 ghost use Rattle.fields.specs.Field.{field_of};
 
 use crate::digits::{Value, float, hex, number};
@@ -17,7 +17,7 @@ pub enum Line {
 }
 
 fn vertex(x: Value, y: Value, z: Value, place: usize) -> Line
-    ensures { result ≡ vertexOf x y z place }
+    ensures { result ≡ vertex_of x y z place }
 {
     let Value::Is(p) = x else {
         return Line::Refused(place);
@@ -40,7 +40,7 @@ fn element(a: Value, b: Value, c: Value, d: Value, place: usize) -> Line
     requires small_2 { Small b }
     requires small_3 { Small c }
     requires small_4 { Small d }
-    ensures { result ≡ elementOf a b c d place }
+    ensures { result ≡ element_of a b c d place }
 {
     let Value::Is(i) = a else {
         return Line::Refused(place);
@@ -73,7 +73,7 @@ fn mark(a: Value, place: usize) -> Line
 }
 
 fn read_vertex(line: &[u8], place: usize) -> Line
-    ensures { result ≡ vertexOf (hexOf (field_of line.now 1)) (hexOf (field_of line.now 2)) (hexOf (field_of line.now 3)) place }
+    ensures { result ≡ vertex_of (hex_of (field_of line.now 1)) (hex_of (field_of line.now 2)) (hex_of (field_of line.now 3)) place }
 {
     let x = hex(field(line, 1));
     let y = hex(field(line, 2));
@@ -82,7 +82,7 @@ fn read_vertex(line: &[u8], place: usize) -> Line
 }
 
 fn read_element(line: &[u8], place: usize) -> Line
-    ensures { result ≡ elementOf (number_of (field_of line.now 1)) (number_of (field_of line.now 2)) (number_of (field_of line.now 3)) (number_of (field_of line.now 4)) place }
+    ensures { result ≡ element_of (number_of (field_of line.now 1)) (number_of (field_of line.now 2)) (number_of (field_of line.now 3)) (number_of (field_of line.now 4)) place }
 {
     let a = number(field(line, 1));
     let b = number(field(line, 2));

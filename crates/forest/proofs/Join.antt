@@ -38,9 +38,9 @@ pub record Older (b c : Gen) : Type 0 where
 swap : (N : ℕ) (a b : Gen) → a.level ≡ b.level → joined N Ordering.eq a b ≡ joined N Ordering.eq b a
 swap N a b e = rw (e, max_comm a.type b.type, min_comm a.type b.type)
 
-pub join-commutes : (N : ℕ) (a b : Gen) → join N a b ≡ join N b a
+pub join_commutes : (N : ℕ) (a b : Gen) → join N a b ≡ join N b a
 unfolding join
-join-commutes N a b = go (compare a.level b.level) (compare b.level a.level) (compared a.level b.level) (compared b.level a.level)
+join_commutes N a b = go (compare a.level b.level) (compare b.level a.level) (compared a.level b.level) (compared b.level a.level)
   where
     go : (o o' : Ordering) → Compared a.level b.level o → Compared b.level a.level o' → joined N o a b ≡ joined N o' b a
     go Ordering.lt Ordering.lt (below h) (below k) = absurd (omega arith)
@@ -53,18 +53,18 @@ join-commutes N a b = go (compare a.level b.level) (compare b.level a.level) (co
     go Ordering.gt Ordering.eq (above h) (level k) = absurd (omega arith)
     go Ordering.gt Ordering.gt (above h) (above k) = absurd (omega arith)
 
-pub join-even : (N : ℕ) (a b : Gen) → a.level ≡ b.level → b.type ≤ a.type → a.type ≤ N → Even N a b (join N a b)
+pub join_even : (N : ℕ) (a b : Gen) → a.level ≡ b.level → b.type ≤ a.type → a.type ≤ N → Even N a b (join N a b)
 unfolding join
-join-even N a b e h k = go (compare a.level b.level) (compared a.level b.level)
+join_even N a b e h k = go (compare a.level b.level) (compared a.level b.level)
   where
     go : (o : Ordering) → Compared a.level b.level o → Even N a b (joined N o a b)
     go Ordering.lt (below l) = absurd (omega arith)
     go Ordering.eq (level l) = record { level = refl; type = omega arith }
     go Ordering.gt (above l) = absurd (omega arith)
 
-pub join-older : (N : ℕ) (a b : Gen) → a.level < b.level → Older b (join N a b)
+pub join_older : (N : ℕ) (a b : Gen) → a.level < b.level → Older b (join N a b)
 unfolding join
-join-older N a b e = go (compare a.level b.level) (compared a.level b.level)
+join_older N a b e = go (compare a.level b.level) (compared a.level b.level)
   where
     go : (o : Ordering) → Compared a.level b.level o → Older b (joined N o a b)
     go Ordering.lt (below l) = record { level = refl; type = refl }

@@ -8,7 +8,7 @@ use native.Mathlib.Omega.{arith}
 use lib.Dec.{T, eqb, eqb→eq, eqb_refl}
 use Rattle.split.specs.Split.{Tag, one, two, three, number, Corners, at, far}
 use Rattle.split.proofs.laws.Children.{far_at}
-use Rattle.split.proofs.laws.Tags.{tag-range}
+use Rattle.split.proofs.laws.Tags.{tag_range}
 use Rattle.split.proofs.laws.Places.{under}
 use Rattle.forest.specs.Element.{init, initial}
 use Rattle.forest.specs.Generation.{Gen, start, gen}
@@ -27,17 +27,17 @@ record Top (N : ℕ) (a : Gen) : Type 0 where
   level : a.level ≡ 0
   type : a.type ≡ N
 
-start-lower : (N c : ℕ) → c < N → Lower N c (start N c)
+start_lower : (N c : ℕ) → c < N → Lower N c (start N c)
 unfolding start
-start-lower N c h = go (eqb c N) (eqb→eq c N)
+start_lower N c h = go (eqb c N) (eqb→eq c N)
   where
     go : (b : Bool) → (T b → c ≡ N) → Lower N c (cond b (record { level = 0; type = N }) (record { level = 1; type = N - c }))
     go true e = let z : c ≡ N = e tt in absurd (omega arith)
     go false e = omega arith
 
-start-top : (N c : ℕ) → c ≡ N → Top N (start N c)
+start_top : (N c : ℕ) → c ≡ N → Top N (start N c)
 unfolding start
-start-top N c e = go (eqb c N) (rw e (eqb_refl N))
+start_top N c e = go (eqb c N) (rw e (eqb_refl N))
   where
     go : (b : Bool) → T b → Top N (cond b (record { level = 0; type = N }) (record { level = 1; type = N - c }))
     go true h = omega arith
@@ -48,8 +48,8 @@ record Bounded (N : ℕ) (a : Gen) : Type 0 where
   least : 1 ≤ a.type
   most : a.type ≤ N
 
-start-bounded : (N c : ℕ) → 1 ≤ N → c ≤ N → Bounded N (start N c)
-start-bounded N c h k = elim (eq-or-lt_of_le k) [ inl e ↦ omega (arith, start-top N c e) | inr l ↦ omega (arith, start-lower N c l) ]
+start_bounded : (N c : ℕ) → 1 ≤ N → c ≤ N → Bounded N (start N c)
+start_bounded N c h k = elim (eq-or-lt_of_le k) [ inl e ↦ omega (arith, start_top N c e) | inr l ↦ omega (arith, start_lower N c l) ]
 
 -- ---- a row of colours: v1 to vn rise and are below N, and v0 is below v1 or N itself
 
@@ -69,33 +69,33 @@ module _ (N n : ℕ) (κ : ℕ → ℕ) (some : 1 ≤ n) (r : Row N n κ) where
   below l (suc p) h = omega (arith, r.lower (suc p) (omega arith) h)
 
   bounded : (p : ℕ) → p ≤ n → Bounded N (start N (κ p))
-  bounded p h = start-bounded N (κ p) (omega (arith, first)) (below r.lead p h)
+  bounded p h = start_bounded N (κ p) (omega (arith, first)) (below r.lead p h)
 
   -- colours that rise are types that fall; v0 is in case `older` exactly if its colour is N
-  row-front : (κ 0 < κ 1) ⊎ (κ 0 ≡ N) → Front N n n 1 (λ p. start N (κ p))
-  row-front (inl l) =
-      let b = start-lower N (κ 0) (omega (arith, first)) in
-      even b.level (omega (arith, start-lower N (κ 1) first)) (λ k. absurd (omega arith))
-  row-front (inr e) = older (omega (arith, start-top N (κ 0) e)) (λ k. absurd (omega arith))
+  row_front : (κ 0 < κ 1) ⊎ (κ 0 ≡ N) → Front N n n 1 (λ p. start N (κ p))
+  row_front (inl l) =
+      let b = start_lower N (κ 0) (omega (arith, first)) in
+      even b.level (omega (arith, start_lower N (κ 1) first)) (λ k. absurd (omega arith))
+  row_front (inr e) = older (omega (arith, start_top N (κ 0) e)) (λ k. absurd (omega arith))
 
   row_fits : Invariant N n n 1 (λ p. start N (κ p))
   row_fits = record {
-    low = λ p a b. (start-lower N (κ p) (r.lower p a b)).level;
+    low = λ p a b. (start_lower N (κ p) (r.lower p a b)).level;
     high = λ p a b. absurd (omega arith);
-    falls-low = λ p q a l b. omega (arith, r.rises p q a l b, start-lower N (κ p) (r.lower p a (omega arith)), start-lower N (κ q) (r.lower q (omega arith) b));
-    falls-high = λ p q a l b. absurd (omega arith);
+    falls_low = λ p q a l b. omega (arith, r.rises p q a l b, start_lower N (κ p) (r.lower p a (omega arith)), start_lower N (κ q) (r.lower q (omega arith) b));
+    falls_high = λ p q a l b. absurd (omega arith);
     least = λ p h. (bounded p h).least;
     most = λ p h. (bounded p h).most;
-    front = row-front r.lead;
+    front = row_front r.lead;
   }
 
 -- ---- a root's row: the sorted vertices, with the last moved to the front or not (000, equation (1))
 
 module _ {A : Type 0} (w : Corners A) where
-  moved-first : (top : Tag) → at (moved top w) 0 ≡ far top w
-  moved-first one = refl
-  moved-first two = refl
-  moved-first three = refl
+  moved_first : (top : Tag) → at (moved top w) 0 ≡ far top w
+  moved_first one = refl
+  moved_first two = refl
+  moved_first three = refl
 
   moved_later : (top : Tag) (p : ℕ) → p < number top → at (moved top w) (suc p) ≡ at w p
   moved_later one = under one (λ p. at (moved one w) (suc p) ≡ at w p) refl
@@ -121,31 +121,31 @@ module _ (top : Tag) (N : ℕ) (colour : ℕ → ℕ) (w : Corners ℕ) (r : Ris
   row true told back = record {
     rises = λ p q a l b. rw (moved_at w top p a (omega arith), moved_at w top q (omega arith) b) (rise (pred p) (pred q) (omega arith) (omega arith));
     lower = λ p a b. rw (moved_at w top p a b) (omega (arith, under_last (pred p) (omega arith), told tt));
-    lead = inr (rw (moved-first w top) (told tt));
+    lead = inr (rw (moved_first w top) (told tt));
   }
   row false told back =
       let last : colour (far top w) < N = omega (arith, r.most, back) in
       record {
         rises = λ p q a l b. rise p q l b;
         lower = λ p a b. elim (eq-or-lt_of_le b) [ inl e ↦ rw (e, far_at w top) last | inr l ↦ omega (arith, under_last p l) ];
-        lead = inl (r.rises 0 (tag-range top).0);
+        lead = inl (r.rises 0 (tag_range top).0);
       }
 
 -- ---- the row of names
 
-initial-at : (c : Corners ℕ) (p : ℕ) → at (initial c) p ≡ init (at c p)
-initial-at c zero = refl
-initial-at c (suc zero) = refl
-initial-at c (suc (suc zero)) = refl
-initial-at c (suc (suc (suc p))) = refl
+initial_at : (c : Corners ℕ) (p : ℕ) → at (initial c) p ≡ init (at c p)
+initial_at c zero = refl
+initial_at c (suc zero) = refl
+initial_at c (suc (suc zero)) = refl
+initial_at c (suc (suc (suc p))) = refl
 
-initial-gen : (N : ℕ) (colour : ℕ → ℕ) (c : Corners ℕ) (p : ℕ) → gen N colour (at (initial c) p) ≡ start N (colour (at c p))
+initial_gen : (N : ℕ) (colour : ℕ → ℕ) (c : Corners ℕ) (p : ℕ) → gen N colour (at (initial c) p) ≡ start N (colour (at c p))
 unfolding gen
-initial-gen N colour c p = rw (initial-at c p)
+initial_gen N colour c p = rw (initial_at c p)
 
-started-row : (top : Tag) (N : ℕ) (colour : ℕ → ℕ) (c : Corners ℕ) → Started top N colour c → Row N (number top) (λ p. colour (at c p))
+started_row : (top : Tag) (N : ℕ) (colour : ℕ → ℕ) (c : Corners ℕ) → Started top N colour c → Row N (number top) (λ p. colour (at c p))
 unfolding arranged
-started-row top N colour c s = rw s.is (row top N colour s.sorted s.rising (eqb (colour (far top s.sorted)) N) (eqb→eq (colour (far top s.sorted)) N) (λ e. rw e (eqb_refl N)))
+started_row top N colour c s = rw s.is (row top N colour s.sorted s.rising (eqb (colour (far top s.sorted)) N) (eqb→eq (colour (far top s.sorted)) N) (λ e. rw e (eqb_refl N)))
 
-pub root-fits : (top : Tag) (N : ℕ) (colour : ℕ → ℕ) (c : Corners ℕ) → Started top N colour c → Invariant N (number top) (number top) 1 (λ p. gen N colour (at (initial c) p))
-root-fits top N colour c s = simp initial-gen (row_fits N (number top) (λ p. colour (at c p)) (tag-range top).0 (started-row top N colour c s))
+pub root_fits : (top : Tag) (N : ℕ) (colour : ℕ → ℕ) (c : Corners ℕ) → Started top N colour c → Invariant N (number top) (number top) 1 (λ p. gen N colour (at (initial c) p))
+root_fits top N colour c s = simp initial_gen (row_fits N (number top) (λ p. colour (at c p)) (tag_range top).0 (started_row top N colour c s))

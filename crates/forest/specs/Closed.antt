@@ -27,12 +27,12 @@ pub record Closed (F : Forest) (S : Element → Type 0) : Type 0 where
 pub data Forced (F : Forest) (M : Element → Type 0) : Element → Type 0 where
   marked : {e : Element} → M e → Forced F M e
   parent : {k : ℕ} {s : Side} {p : List Side} → Forced F M (el k (s ∷ p)) → Forced F M (el k p)
-  edge-root : {k : ℕ} {u : Element} → k < F.count → Forced F M u → HoldsEdge F (el k []) u → Forced F M (el k [])
-  edge-child : {k : ℕ} {s : Side} {p : List Side} {u : Element} → Forced F M (el k p) → Forced F M u → HoldsEdge F (el k (s ∷ p)) u → Forced F M (el k (s ∷ p))
+  edge_root : {k : ℕ} {u : Element} → k < F.count → Forced F M u → HoldsEdge F (el k []) u → Forced F M (el k [])
+  edge_child : {k : ℕ} {s : Side} {p : List Side} {u : Element} → Forced F M (el k p) → Forced F M u → HoldsEdge F (el k (s ∷ p)) u → Forced F M (el k (s ∷ p))
 
 -- S is the smallest closed set that holds M, in the words of demand 3. A closed set that holds M has every member of S, where its own members can be told; and of no closed set that holds M is a member of S outside.
 pub record Smallest (F : Forest) (M S : Element → Type 0) : Type 1 where
   pub closed : ClosedAsDemanded F S
   pub holds : (e : Element) → M e → S e
   pub least : (T : Element → Type 0) → ((e : Element) → Dec (T e)) → ClosedAsDemanded F T → ((e : Element) → M e → T e) → (e : Element) → S e → T e
-  pub none-outside : (T : Element → Type 0) → ClosedAsDemanded F T → ((e : Element) → M e → T e) → (e : Element) → S e → (T e → ⊥) → ⊥
+  pub none_outside : (T : Element → Type 0) → ClosedAsDemanded F T → ((e : Element) → M e → T e) → (e : Element) → S e → (T e → ⊥) → ⊥

@@ -30,5 +30,5 @@ gen N colour (init v) = start N (colour v)
 gen N colour (mid a b) = join N (gen N colour a) (gen N colour b)
 
 -- the generation of an element's refinement edge (000, gen♯)
-abbrev pub edgeGen : ℕ → (ℕ → ℕ) → Shape → Gen
-edgeGen N colour x = join N (gen N colour (near x)) (gen N colour (away x))
+abbrev pub edge_gen : ℕ → (ℕ → ℕ) → Shape → Gen
+edge_gen N colour x = join N (gen N colour (near x)) (gen N colour (away x))

@@ -15,6 +15,6 @@ abbrev pub Nothing : Element → Type 0
 Nothing e = ⊥
 
 -- what is split after the calls, the newest first, where B was split before them: a call splits what its marks and the splits before it force (demand 3; 02, L5: "the elements still split and all later marks")
-unfoldable pub calledSince : Forest → (Element → Type 0) → List (List Element) → Element → Type 0
-calledSince F B [] e = B e
-calledSince F B (m ∷ ms) e = Forced F (Either (calledSince F B ms) (λ x. Memᴰ x m)) e
+unfoldable pub called_since : Forest → (Element → Type 0) → List (List Element) → Element → Type 0
+called_since F B [] e = B e
+called_since F B (m ∷ ms) e = Forced F (Either (called_since F B ms) (λ x. Memᴰ x m)) e

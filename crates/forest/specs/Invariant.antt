@@ -15,8 +15,8 @@ pub record Invariant (N n g L : ℕ) (γ : ℕ → Gen) : Type 0 where
   pub low : (p : ℕ) → 1 ≤ p → p ≤ g → (γ p).level ≡ L
   pub high : (p : ℕ) → g < p → p ≤ n → (γ p).level ≡ suc L
   -- in each of the two groups the types fall
-  pub falls-low : (p q : ℕ) → 1 ≤ p → p < q → q ≤ g → (γ q).type < (γ p).type
-  pub falls-high : (p q : ℕ) → g < p → p < q → q ≤ n → (γ q).type < (γ p).type
+  pub falls_low : (p q : ℕ) → 1 ≤ p → p < q → q ≤ g → (γ q).type < (γ p).type
+  pub falls_high : (p q : ℕ) → g < p → p < q → q ≤ n → (γ q).type < (γ p).type
   -- types are from 1 to N
   pub least : (p : ℕ) → p ≤ n → 1 ≤ (γ p).type
   pub most : (p : ℕ) → p ≤ n → (γ p).type ≤ N

@@ -3,9 +3,9 @@ use Rattle.std.specs.Prelude.{◌≡◌, Bool, true, false, List, [], ◌∷◌,
 use Rattle.split.specs.Split.{Side, left, right}
 
 -- the leaves at and below an element, the first child's side before the second's; `split` tells which elements are split, and the number bounds how deep to look
-unfoldable pub leavesFrom : ℕ → (List Side → Bool) → List Side → List (List Side)
-leavesFrom zero split p = p ∷ []
-leavesFrom (suc d) split p = elim (split p) [ true ↦ leavesFrom d split (left ∷ p) ++ leavesFrom d split (right ∷ p) | false ↦ p ∷ [] ]
+unfoldable pub leaves_from : ℕ → (List Side → Bool) → List Side → List (List Side)
+leaves_from zero split p = p ∷ []
+leaves_from (suc d) split p = elim (split p) [ true ↦ leaves_from d split (left ∷ p) ++ leaves_from d split (right ∷ p) | false ↦ p ∷ [] ]
 
 -- 2 ^ 60 times one half to the power of the depth
 abbrev pub weight : List Side → ℕ

@@ -4,14 +4,14 @@ use Rattle.frame.proofs.marks.judge.Reads as judge
 use Rattle.frame.proofs.points.fill.Reads as fill
 use Rattle.frame.proofs.undo.undo.Reads as undo
 
-pub judge-determined : (κs : _) (a : _) (r r' : _) (s s' : _) → judge.Learnt κs a r s → judge.Learnt κs a r' s' → r ≡ r'
-judge-determined κs a r r' s s' p q = p ∙ sym q
+pub judge_determined : (κs : _) (a : _) (r r' : _) (s s' : _) → judge.Learnt κs a r s → judge.Learnt κs a r' s' → r ≡ r'
+judge_determined κs a r r' s s' p q = p ∙ sym q
 
-pub fill-determined : (κs : _) (a : _) (r r' : _) (s s' : _) → fill.Learnt κs a r s → fill.Learnt κs a r' s' → s.0.now ≡ s'.0.now
-fill-determined κs a r r' s s' p q = p ∙ sym q
+pub fill_determined : (κs : _) (a : _) (r r' : _) (s s' : _) → fill.Learnt κs a r s → fill.Learnt κs a r' s' → s.0.now ≡ s'.0.now
+fill_determined κs a r r' s s' p q = p ∙ sym q
 
-pub undo-rows-determined : (κs : _) (a : _) (r r' : _) (s s' : _) → undo.Learnt κs a r s → undo.Learnt κs a r' s' → s.1.0.now ≡ s'.1.0.now
-undo-rows-determined κs a r r' s s' p q = p.0 ∙ sym q.0
+pub undo_rows_determined : (κs : _) (a : _) (r r' : _) (s s' : _) → undo.Learnt κs a r s → undo.Learnt κs a r' s' → s.1.0.now ≡ s'.1.0.now
+undo_rows_determined κs a r r' s s' p q = p.0 ∙ sym q.0
 
-pub undo-records-determined : (κs : _) (a : _) (r r' : _) (s s' : _) → undo.Learnt κs a r s → undo.Learnt κs a r' s' → s.0.now ≡ s'.0.now
-undo-records-determined κs a r r' s s' p q = p.1 ∙ sym q.1
+pub undo_records_determined : (κs : _) (a : _) (r r' : _) (s s' : _) → undo.Learnt κs a r s → undo.Learnt κs a r' s' → s.0.now ≡ s'.0.now
+undo_records_determined κs a r r' s s' p q = p.1 ∙ sym q.1

@@ -7,9 +7,9 @@ use Rattle.intake.specs.Verdict.{at, when}
 use Rattle.tables.specs.Layout.{row_at}
 
 -- row r is a leaf of depth 60
-unfoldable pub deepAt : List ℕ → ℕ → Bool
-deepAt w r = eqb (row_at w r).child 0 && eqb (row_at w r).depth 60
+unfoldable pub deep_at : List ℕ → ℕ → Bool
+deep_at w r = eqb (row_at w r).child 0 && eqb (row_at w r).depth 60
 
 -- number 10 at the first position, then number 11 (01, "What comes back")
-unfoldable pub onMarks : List ℕ → ℕ → List ℕ → Verdict
-onMarks w n marks = at (first (λ j. leb n (get_or marks j 0)) (length marks)) 10 (when (any (λ j. deepAt w (get_or marks j 0)) (length marks)) 11 Passed)
+unfoldable pub on_marks : List ℕ → ℕ → List ℕ → Verdict
+on_marks w n marks = at (first (λ j. leb n (get_or marks j 0)) (length marks)) 10 (when (any (λ j. deep_at w (get_or marks j 0)) (length marks)) 11 Passed)

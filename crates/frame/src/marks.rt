@@ -1,7 +1,7 @@
 // Numbers 10 and 11 as far as the marks alone tell: a mark that names no row, and one that names a leaf of depth 60 (document 01, "What comes back").
 ghost use Rattle.std.specs.Prelude.{◌≡◌, ◌<◌, leb, length, get_or};
 ghost use Rattle.intake.specs.Search.{first, any};
-ghost use Rattle.frame.specs.Marks.{deepAt, onMarks};
+ghost use Rattle.frame.specs.Marks.{deep_at, on_marks};
 
 use chain::wide;
 use intake::answer::{Found, Verdict};
@@ -29,7 +29,7 @@ fn first_missing(marks: &[u32], n: usize) -> Found
 }
 
 fn is_deep(rows: &[u32], r: usize) -> bool
-    ensures { result ≡ deepAt rows.now r }
+    ensures { result ≡ deep_at rows.now r }
 {
     let held = tables::row::read(rows, r);
     if held.child != 0 {
@@ -40,14 +40,14 @@ fn is_deep(rows: &[u32], r: usize) -> bool
 
 fn marks_deep(rows: &[u32], marks: &[u32], j: usize) -> bool
     requires { j < length marks.now }
-    ensures { result ≡ deepAt rows.now (get_or marks.now j 0) }
+    ensures { result ≡ deep_at rows.now (get_or marks.now j 0) }
 {
     is_deep(rows, wide(marks[j]))
 }
 
-// Whether a mark names a leaf of depth 60. Where the tables are sound and the marks are rows, exactly then closure would split an element of depth 60: `deep-exactly` of run/proofs/laws/Needs.antt (document 02, L9).
+// Whether a mark names a leaf of depth 60. Where the tables are sound and the marks are rows, exactly then closure would split an element of depth 60: `deep_exactly` of run/proofs/laws/Needs.antt (document 02, L9).
 fn any_deep(rows: &[u32], marks: &[u32]) -> bool
-    ensures { result ≡ any (λ j. deepAt rows.now (get_or marks.now j 0)) (length marks.now) }
+    ensures { result ≡ any (λ j. deep_at rows.now (get_or marks.now j 0)) (length marks.now) }
 {
     let end = marks.len();
     let mut j = 0usize;
@@ -62,7 +62,7 @@ fn any_deep(rows: &[u32], marks: &[u32]) -> bool
 
 // Numbers 10 and 11.
 pub fn judge(rows: &[u32], n: usize, marks: &[u32]) -> Verdict
-    ensures { result ≡ onMarks rows.now n marks.now }
+    ensures { result ≡ on_marks rows.now n marks.now }
 {
     let missing = first_missing(marks, n);
     if let Found::At(place) = missing {

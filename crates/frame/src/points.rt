@@ -1,14 +1,14 @@
 // The points of appended midpoints, stored in number order once closure is done: nothing in closure depends on coordinates (document 01, "Closure").
 ghost use Rattle.std.specs.Prelude.{◌≡◌};
-ghost use Rattle.tables.specs.Layout.{recordAt, putPoint};
-ghost use Rattle.frame.specs.Points.{halfwayAt, filled};
+ghost use Rattle.tables.specs.Layout.{record_at, put_point};
+ghost use Rattle.frame.specs.Points.{halfway_at, filled};
 
 use chain::wide;
 use tables::layout::{POINT, least};
 
 // Stores the point of v. A parent that has none is read as zeros.
 fn fill_point(points: &mut [f64], records: &[u32], v: usize)
-    ensures { points.new ≡ putPoint points.old v (halfwayAt points.old (recordAt records.now v)) }
+    ensures { points.new ≡ put_point points.old v (halfway_at points.old (record_at records.now v)) }
 {
     let r = tables::record::read(records, v);
     let p = tables::point::read(points, wide(r.first));

@@ -1,8 +1,8 @@
 // A refused call leaves every lent number as at entry (document 01, "What comes back"). That needs no copy: rows are only appended, and a first child is only set from 0.
 ghost use Rattle.std.specs.Prelude.{◌≡◌};
-ghost use Rattle.tables.specs.Layout.{no_row, noRecord, row_at, putRow, putRecord};
+ghost use Rattle.tables.specs.Layout.{no_row, no_record, row_at, put_row, put_record};
 ghost use Rattle.frame.specs.Undo as undo;
-ghost use Rattle.frame.specs.Undo.{released, emptiedRows, emptiedRecords, undone};
+ghost use Rattle.frame.specs.Undo.{released, emptied_rows, emptied_records, undone};
 
 use chain::wide;
 use split::row::{Row, with_child};
@@ -20,7 +20,7 @@ fn restored(r: Row, n: usize) -> Row
 }
 
 fn release_row(rows: &mut [u32], k: usize, n: usize)
-    ensures { rows.new ≡ putRow rows.old k (undo.restored n (row_at rows.old k)) }
+    ensures { rows.new ≡ put_row rows.old k (undo.restored n (row_at rows.old k)) }
 {
     let held = tables::row::read(rows, k);
     tables::row::write(rows, k, restored(held, n));
@@ -39,13 +39,13 @@ fn release(rows: &mut [u32], n: usize)
 }
 
 fn clear_row(rows: &mut [u32], k: usize)
-    ensures { rows.new ≡ putRow rows.old k no_row }
+    ensures { rows.new ≡ put_row rows.old k no_row }
 {
     tables::row::write(rows, k, unused());
 }
 
 fn clear_rows(rows: &mut [u32], from: usize, to: usize)
-    ensures { rows.new ≡ emptiedRows rows.old from to }
+    ensures { rows.new ≡ emptied_rows rows.old from to }
 {
     let end = least(to, rows.len() / ROW);
     let mut k = from;
@@ -56,7 +56,7 @@ fn clear_rows(rows: &mut [u32], from: usize, to: usize)
 }
 
 fn clear_record(records: &mut [u32], k: usize)
-    ensures { records.new ≡ putRecord records.old k noRecord }
+    ensures { records.new ≡ put_record records.old k no_record }
 {
     let none = Record {
         first: 0,
@@ -66,7 +66,7 @@ fn clear_record(records: &mut [u32], k: usize)
 }
 
 fn clear_records(records: &mut [u32], from: usize, to: usize)
-    ensures { records.new ≡ emptiedRecords records.old from to }
+    ensures { records.new ≡ emptied_records records.old from to }
 {
     let end = least(to, records.len() / RECORD);
     let mut k = from;
@@ -79,7 +79,7 @@ fn clear_records(records: &mut [u32], from: usize, to: usize)
 // Gives back the rows and records of the counts c in tables that have grown to d.
 pub fn undo(records: &mut [u32], rows: &mut [u32], c: Counts, d: Counts)
     ensures rows_after { rows.new ≡ undone rows.old c.rows d.rows }
-    ensures records_after { records.new ≡ emptiedRecords records.old c.vertices d.vertices }
+    ensures records_after { records.new ≡ emptied_records records.old c.vertices d.vertices }
 {
     release(rows, c.rows);
     clear_rows(rows, c.rows, d.rows);

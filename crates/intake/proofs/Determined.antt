@@ -7,20 +7,20 @@ use Rattle.intake.proofs.verdict_at.Reads as verdict-at
 use Rattle.intake.proofs.judge_lengths.Reads as judge-lengths
 use Rattle.intake.proofs.judge_numbers.Reads as judge-numbers
 
-pub verdict-at-determined : (κs : _) (a : _) (r r' : _) (s s' : _) → verdict-at.Learnt κs a r s → verdict-at.Learnt κs a r' s' → r ≡ r'
-verdict-at-determined κs a r r' s s' p q = p ∙ sym q
+pub verdict_at_determined : (κs : _) (a : _) (r r' : _) (s s' : _) → verdict-at.Learnt κs a r s → verdict-at.Learnt κs a r' s' → r ≡ r'
+verdict_at_determined κs a r r' s s' p q = p ∙ sym q
 
-pub judge-lengths-determined : (κs : _) (a : _) (r r' : _) (s s' : _) → judge-lengths.Learnt κs a r s → judge-lengths.Learnt κs a r' s' → r ≡ r'
-judge-lengths-determined κs a r r' s s' p q = p ∙ sym q
+pub judge_lengths_determined : (κs : _) (a : _) (r r' : _) (s s' : _) → judge-lengths.Learnt κs a r s → judge-lengths.Learnt κs a r' s' → r ≡ r'
+judge_lengths_determined κs a r r' s s' p q = p ∙ sym q
 
-pub judge-numbers-determined : (κs : _) (a : _) (r r' : _) (s s' : _) → judge-numbers.Learnt κs a r s → judge-numbers.Learnt κs a r' s' → r ≡ r'
-judge-numbers-determined κs a r r' s s' p q = p ∙ sym q
+pub judge_numbers_determined : (κs : _) (a : _) (r r' : _) (s s' : _) → judge-numbers.Learnt κs a r s → judge-numbers.Learnt κs a r' s' → r ≡ r'
+judge_numbers_determined κs a r r' s s' p q = p ∙ sym q
 
-pub number-at-determined : (κs : _) (a : _) (r r' : _) (s s' : _) → number_at.Learnt κs a r s → number_at.Learnt κs a r' s' → r ≡ r'
-number-at-determined κs a r r' s s' p q = p ∙ sym q
+pub number_at_determined : (κs : _) (a : _) (r r' : _) (s s' : _) → number_at.Learnt κs a r s → number_at.Learnt κs a r' s' → r ≡ r'
+number_at_determined κs a r r' s s' p q = p ∙ sym q
 
-pub vertex-at-determined : (κs : _) (a : _) (r r' : _) (s s' : _) → vertex-at.Learnt κs a r s → vertex-at.Learnt κs a r' s' → r ≡ r'
-vertex-at-determined κs a r r' s s' p q = p ∙ sym q
+pub vertex_at_determined : (κs : _) (a : _) (r r' : _) (s s' : _) → vertex-at.Learnt κs a r s → vertex-at.Learnt κs a r' s' → r ≡ r'
+vertex_at_determined κs a r r' s s' p q = p ∙ sym q
 
-pub corners-determined : (κs : _) (a : _) (r r' : _) (s s' : _) → corners.Learnt κs a r s → corners.Learnt κs a r' s' → r ≡ r'
-corners-determined κs a r r' s s' p q = p ∙ sym q
+pub corners_determined : (κs : _) (a : _) (r r' : _) (s s' : _) → corners.Learnt κs a r s → corners.Learnt κs a r' s' → r ≡ r'
+corners_determined κs a r r' s s' p q = p ∙ sym q

@@ -2,22 +2,22 @@
 use Rattle.std.specs.Prelude.{Bool, false, not, ◌&&◌, ◌||◌, List, ℕ, ◌+◌, ◌*◌, ◌%◌, ◌^◌, eqb, ltb, leb, get_or, Float}
 use Rattle.std.specs.Float.{nan, inf, fin}
 use Rattle.std.specs.Float.Ieee.{up, down}
-use Rattle.tables.specs.Layout.{roomOf, pointWidth, recordWidth, rowWidth, mostRows, mostVertices}
+use Rattle.tables.specs.Layout.{room_of, point_width, record_width, row_width, most_rows, most_vertices}
 use Rattle.intake.specs.Search.{any, count}
 use Rattle.intake.specs.Cells.{Cells}
 
 -- 1: input length not 3 a vertex or 4 an element; no element; over 20,000 vertices or 100,000 elements
-unfoldable pub wrongInput : ℕ → ℕ → Bool
-wrongInput coordinates elements =
-    not (eqb (coordinates % pointWidth) 0) || (not (eqb (elements % 4) 0) || (eqb elements 0 || (ltb (pointWidth * mostVertices) coordinates || ltb (4 * mostRows) elements)))
+unfoldable pub wrong_input : ℕ → ℕ → Bool
+wrong_input coordinates elements =
+    not (eqb (coordinates % point_width) 0) || (not (eqb (elements % 4) 0) || (eqb elements 0 || (ltb (point_width * most_vertices) coordinates || ltb (4 * most_rows) elements)))
 
 -- 1: lent length no multiple of 3, 2, 8
-unfoldable pub wrongLent : ℕ → ℕ → ℕ → Bool
-wrongLent points records rows = not (eqb (points % pointWidth) 0) || (not (eqb (records % recordWidth) 0) || not (eqb (rows % rowWidth) 0))
+unfoldable pub wrong_lent : ℕ → ℕ → ℕ → Bool
+wrong_lent points records rows = not (eqb (points % point_width) 0) || (not (eqb (records % record_width) 0) || not (eqb (rows % row_width) 0))
 
 -- 2: more vertices or elements than there is room for
-unfoldable pub noRoom : ℕ → ℕ → ℕ → ℕ → ℕ → Bool
-noRoom vertices elements points records rows = ltb (roomOf points records rows).vertices vertices || ltb (roomOf points records rows).rows elements
+unfoldable pub has_no_room : ℕ → ℕ → ℕ → ℕ → ℕ → Bool
+has_no_room vertices elements points records rows = ltb (room_of points records rows).vertices vertices || ltb (room_of points records rows).rows elements
 
 -- a finite number of magnitude at most 2 ^ 1000
 unfoldable pub usable : Float → Bool
@@ -27,7 +27,7 @@ usable (fin s m e) = leb (m * up e) (2 ^ 1000 * down e)
 
 -- 3: a coordinate of vertex v is not finite, or of magnitude over 2 ^ 1000
 unfoldable pub unusable : List Float → ℕ → Bool
-unusable F v = not (usable (get_or F (pointWidth * v) nan) && (usable (get_or F (pointWidth * v + 1) nan) && usable (get_or F (pointWidth * v + 2) nan)))
+unusable F v = not (usable (get_or F (point_width * v) nan) && (usable (get_or F (point_width * v + 1) nan) && usable (get_or F (point_width * v + 2) nan)))
 
 -- the vertex at place q of element k
 abbrev pub vertex : Cells → ℕ → ℕ → ℕ

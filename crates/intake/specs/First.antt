@@ -5,7 +5,7 @@ use Rattle.std.specs.Prelude.{◌≡◌, Bool, true, false, ℕ, ◌<◌}
 pub record FirstAt (test : ℕ → Bool) (n p : ℕ) : Type 0 where
   pub below : p < n
   pub holds : test p ≡ true
-  pub not-before : (q : ℕ) → q < p → test q ≡ false
+  pub not_before : (q : ℕ) → q < p → test q ≡ false
 
 -- the test holds at no place below n
 pub record None (test : ℕ → Bool) (n : ℕ) : Type 0 where

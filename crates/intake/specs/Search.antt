@@ -4,15 +4,15 @@ use Rattle.intake.specs.declared.answer.Found.{Found}
 use Rattle.intake.specs.declared.answer.Found.TheVariants.{At, Nowhere}
 
 -- what was found, or else the place n where the test holds there
-abbrev pub orAt : Found → Bool → ℕ → Found
-orAt (At p) b n = At p
-orAt Nowhere true n = At n
-orAt Nowhere false n = Nowhere
+abbrev pub or_at : Found → Bool → ℕ → Found
+or_at (At p) b n = At p
+or_at Nowhere true n = At n
+or_at Nowhere false n = Nowhere
 
 -- the smallest place below n where the test holds
 unfoldable pub first : (ℕ → Bool) → ℕ → Found
 first test zero = Nowhere
-first test (suc n) = orAt (first test n) (test n) n
+first test (suc n) = or_at (first test n) (test n) n
 
 -- whether the test holds at a place below n
 unfoldable pub any : (ℕ → Bool) → ℕ → Bool

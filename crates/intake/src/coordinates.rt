@@ -1,6 +1,6 @@
 // Number 3: a coordinate that is not finite, or of magnitude over 2 ^ 1000.
 ghost use Rattle.std.specs.Prelude.{◌≡◌, ◌*◌, ◌/◌, ◌<◌, ◌+◌, length};
-ghost use Rattle.tables.specs.Layout.{pointWidth};
+ghost use Rattle.tables.specs.Layout.{point_width};
 ghost use Rattle.intake.specs.Causes.{usable, unusable};
 ghost use Rattle.intake.specs.Search.{first};
 
@@ -19,7 +19,7 @@ pub fn is_usable(x: f64) -> bool
 }
 
 fn is_unusable(coordinates: &[f64], v: usize) -> bool
-    requires { pointWidth * v + 2 < length coordinates.now }
+    requires { point_width * v + 2 < length coordinates.now }
     ensures { result ≡ unusable coordinates.now v }
 {
     let i = POINT * v;
@@ -34,7 +34,7 @@ fn is_unusable(coordinates: &[f64], v: usize) -> bool
 }
 
 pub fn first_unusable(coordinates: &[f64]) -> Found
-    ensures { result ≡ first (unusable coordinates.now) (length coordinates.now / pointWidth) }
+    ensures { result ≡ first (unusable coordinates.now) (length coordinates.now / point_width) }
 {
     let n = coordinates.len() / POINT;
     let mut v = 0usize;

@@ -1,6 +1,6 @@
 // Elements in a table: a row of the tables each, its vertices first, or just four numbers each.
 ghost use Rattle.std.specs.Prelude.{◌≡◌, ◌+◌, ◌≤◌, length, get_or};
-ghost use Rattle.intake.specs.Cells.{cells, quads, fourOf};
+ghost use Rattle.intake.specs.Cells.{cells, quads, four_of};
 
 use chain::wide;
 use tables::layout::ROW;
@@ -61,7 +61,7 @@ pub fn vertex_at(table: &[u32], grid: Grid, k: usize, q: usize) -> usize
 // Four numbers beside each other, read as one part of a table.
 fn part(w: &[u32]) -> Four
     requires { length w.now ≡ 4 }
-    ensures { result ≡ fourOf (quads w.now) 0 }
+    ensures { result ≡ four_of (quads w.now) 0 }
 {
     Four {
         a: w[0],
@@ -73,7 +73,7 @@ fn part(w: &[u32]) -> Four
 
 // The numbers of element k one by one, for a table that may end before it does.
 fn each(table: &[u32], grid: Grid, k: usize) -> Four
-    ensures { result ≡ fourOf (cells table.now grid) k }
+    ensures { result ≡ four_of (cells table.now grid) k }
 {
     Four {
         a: number_at(table, grid, k, 0),
@@ -85,7 +85,7 @@ fn each(table: &[u32], grid: Grid, k: usize) -> Four
 
 // The four vertices of element k, with one look at where they stand.
 pub fn corners(table: &[u32], grid: Grid, k: usize) -> Four
-    ensures { result ≡ fourOf (cells table.now grid) k }
+    ensures { result ≡ four_of (cells table.now grid) k }
 {
     if grid.rows {
         if table.len() / ROW <= k {

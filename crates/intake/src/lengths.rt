@@ -1,13 +1,13 @@
 // Numbers 1 and 2: lengths and room.
 ghost use Rattle.std.specs.Prelude.{◌≡◌};
-ghost use Rattle.intake.specs.Causes.{wrongInput, wrongLent, noRoom};
+ghost use Rattle.intake.specs.Causes.{wrong_input, wrong_lent, has_no_room};
 
 use crate::grid::CORNERS;
 use tables::layout::{MOST_ROWS, MOST_VERTICES, POINT, RECORD, ROW};
 
 // Lengths of the input that no list of vertices and elements has.
 pub fn input_wrong(coordinates: usize, elements: usize) -> bool
-    ensures { result ≡ wrongInput coordinates elements }
+    ensures { result ≡ wrong_input coordinates elements }
 {
     if coordinates % POINT != 0 {
         return true;
@@ -26,7 +26,7 @@ pub fn input_wrong(coordinates: usize, elements: usize) -> bool
 
 // Lengths that no lent table has.
 pub fn lent_wrong(points: usize, records: usize, rows: usize) -> bool
-    ensures { result ≡ wrongLent points records rows }
+    ensures { result ≡ wrong_lent points records rows }
 {
     if points % POINT != 0 {
         return true;
@@ -44,7 +44,7 @@ pub fn too_many(
     records: usize,
     rows: usize,
 ) -> bool
-    ensures { result ≡ noRoom vertices elements points records rows }
+    ensures { result ≡ has_no_room vertices elements points records rows }
 {
     let room = tables::layout::room(points, records, rows);
     if room.vertices < vertices {

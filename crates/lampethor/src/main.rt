@@ -15,7 +15,7 @@ fn drop_rest(rest: &mut [u8; 65536]) {
     }
 }
 
-// No input has an answer that hangs on more than its first 22,325 bytes (`program-prefix`), so the buffer is enough for an input of any length.
+// No input has an answer that hangs on more than its first 22,325 bytes (`program_prefix`), so the buffer is enough for an input of any length.
 fn main() {
     let mut input = io::large_buffer();
     let n = io::read_full(STDIN_FILENO, &mut input);

@@ -3,8 +3,8 @@ use Rattle.std.specs.Prelude.{ℕ, suc}
 use Rattle.tables.specs.Mesh.{Mesh}
 use Rattle.forest.specs.Element.{dimension, shape}
 use Rattle.forest.specs.Level.{LevelOf}
-use Rattle.sound.specs.Forest.{forestOf, colourIn, largestIn, elementOf}
+use Rattle.sound.specs.Forest.{forest_of, colour_in, largest_in, element_of}
 
 -- l is the level of row k's element, where i vertices are initial and t rows are roots
 abbrev pub LevelAt : (m : Mesh) (i t k l : ℕ) → Type 0
-LevelAt m i t k l = LevelOf (largestIn m i) (colourIn m i) (dimension (forestOf m t)) (shape (forestOf m t) (elementOf m t k)) (suc l)
+LevelAt m i t k l = LevelOf (largest_in m i) (colour_in m i) (dimension (forest_of m t)) (shape (forest_of m t) (element_of m t k)) (suc l)

@@ -2,12 +2,12 @@
 use Rattle.std.specs.Prelude.{◌≡◌, List, map, ◌⊎◌, ℕ, ◌<◌, length}
 use Rattle.split.specs.declared.row.Row.{Row}
 use Rattle.tables.specs.declared.layout.Counts.{Counts}
-use Rattle.tables.specs.Mesh.{Lent, meshOf, padded}
+use Rattle.tables.specs.Mesh.{Lent, mesh_of, padded}
 use Rattle.tables.specs.Report.{Tally, unlisted, listed}
 use Rattle.sound.specs.Sound.{Sound}
 use Rattle.leaves.specs.declared.answer.Listed.{Listed}
 use Rattle.leaves.specs.declared.answer.Listed.TheVariants.{Done, Refused}
-use Rattle.leaves.specs.Listing.{levelIn, listing}
+use Rattle.leaves.specs.Listing.{level_in, listing}
 
 -- the numbers that each case of the answer stands for (01, "What comes back")
 abbrev pub reported : Listed → Tally
@@ -19,14 +19,14 @@ pub record Refuses (list levels : List ℕ) (number : ℕ) (r : Listed) (list' l
   pub answers : r ≡ Refused number 0
   pub reports : reported r ≡ unlisted number 0
   pub list_same : list' ≡ list
-  pub levels-same : levels' ≡ levels
+  pub levels_same : levels' ≡ levels
 
 -- accepted: the rows in the one list and the levels in the other, zeros after them; the answer is the number of leaves
 pub record Accepts (W : List Row) (list levels : List ℕ) (r : Listed) (list' levels' : List ℕ) : Type 0 where
   pub answers : r ≡ Done (length (listing W))
   pub reports : reported r ≡ listed (length (listing W))
-  pub list-is : list' ≡ padded (length list) 0 (listing W)
-  pub levels-is : levels' ≡ padded (length levels) 0 (map (levelIn W) (listing W))
+  pub list_is : list' ≡ padded (length list) 0 (listing W)
+  pub levels_is : levels' ≡ padded (length levels) 0 (map (level_in W) (listing W))
 
 -- either list is shorter than the number of leaves
 abbrev pub Short : List Row → List ℕ → List ℕ → Type 0
@@ -40,4 +40,4 @@ pub data OnRoom (W : List Row) (list levels : List ℕ) (r : Listed) (list' leve
 -- The promise of listing the leaves of the tables t with counts c: the answer r, and the two lists afterwards. Number 9 comes first.
 pub data Lists (t : Lent) (c : Counts) (list levels : List ℕ) (r : Listed) (list' levels' : List ℕ) : Type 0 where
   unsound : (Sound t c → ⊥) → Refuses list levels 9 r list' levels' → Lists t c list levels r list' levels'
-  sound : Sound t c → OnRoom (meshOf t c).rows list levels r list' levels' → Lists t c list levels r list' levels'
+  sound : Sound t c → OnRoom (mesh_of t c).rows list levels r list' levels' → Lists t c list levels r list' levels'

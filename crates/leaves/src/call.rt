@@ -1,9 +1,9 @@
 // Listing sound tables: the leaves are counted before anything is stored, since a refused call leaves both lists as at entry.
 ghost use Rattle.std.specs.Prelude.{◌≡◌, cond, ◌≤◌};
-ghost use Rattle.tables.specs.Layout.{mostRows};
+ghost use Rattle.tables.specs.Layout.{most_rows};
 ghost use Rattle.intake.specs.Search.{count};
 ghost use Rattle.leaves.specs.Lists.{Accepts, OnRoom};
-ghost use Rattle.leaves.specs.Walk.{rows_of, leafAt, Listable, Roomy};
+ghost use Rattle.leaves.specs.Walk.{rows_of, leaf_at, Listable, Roomy};
 
 use crate::answer::Listed;
 use crate::roots::list_roots;
@@ -11,7 +11,7 @@ use chain::clear;
 
 // 1 for a leaf, 0 for a row with children.
 fn leaf_at(rows: &[u32], k: usize) -> usize
-    ensures { result ≡ cond (leafAt rows.now k) 1 0 }
+    ensures { result ≡ cond (leaf_at rows.now k) 1 0 }
 {
     let held = tables::row::read(rows, k);
     if held.child == 0 {
@@ -21,8 +21,8 @@ fn leaf_at(rows: &[u32], k: usize) -> usize
 }
 
 fn count_leaves(rows: &[u32], n: usize) -> usize
-    requires { n ≤ mostRows }
-    ensures { result ≡ count (leafAt rows.now) n }
+    requires { n ≤ most_rows }
+    ensures { result ≡ count (leaf_at rows.now) n }
 {
     let mut size = 0usize;
     let mut k = 0usize;

@@ -1,6 +1,6 @@
 // Root by root.
-ghost use Rattle.leaves.specs.Listing.{tree_of, treesBelow};
-ghost use Rattle.leaves.specs.Walk.{rowsIn, Rooted, Stores, Listable};
+ghost use Rattle.leaves.specs.Listing.{tree_of, trees_below};
+ghost use Rattle.leaves.specs.Walk.{rows_in, Rooted, Stores, Listable};
 
 use crate::walk::list_from;
 use chain::wide;
@@ -8,7 +8,7 @@ use chain::wide;
 // Lists the tree of row k where it is a root, and answers the next place.
 fn list_root(rows: &[u32], k: usize, list: &mut [u32], levels: &mut [u32], at: usize) -> usize
     requires { Rooted rows.now k at }
-    ensures { Stores rows.now (tree_of (rowsIn rows.now) k) at list.old levels.old result list.new levels.new }
+    ensures { Stores rows.now (tree_of (rows_in rows.now) k) at list.old levels.old result list.new levels.new }
 {
     let held = tables::row::read(rows, k);
     if wide(held.parent) == k {
@@ -19,7 +19,7 @@ fn list_root(rows: &[u32], k: usize, list: &mut [u32], levels: &mut [u32], at: u
 
 pub fn list_roots(rows: &[u32], n: usize, list: &mut [u32], levels: &mut [u32]) -> usize
     requires { Listable rows.now n }
-    ensures { Stores rows.now (treesBelow (rowsIn rows.now) n) 0 list.old levels.old result list.new levels.new }
+    ensures { Stores rows.now (trees_below (rows_in rows.now) n) 0 list.old levels.old result list.new levels.new }
 {
     let mut at = 0usize;
     let mut k = 0usize;

@@ -1,6 +1,6 @@
 // One root's tree, by recursion (document 01, "What comes back": the first child's side before the second's).
 ghost use Rattle.std.specs.Prelude.{◌≡◌, ◌≤◌};
-ghost use Rattle.leaves.specs.Listing.{levelOf};
+ghost use Rattle.leaves.specs.Listing.{level_of};
 ghost use Rattle.leaves.specs.Walk.{below, Low, Walkable, Stores, StoresOne};
 
 use chain::{put, wide};
@@ -10,7 +10,7 @@ const DIMENSION: u32 = 3;
 // The level of a depth (document 02, L1): divided by the dimension and rounded up, with no sum that could outgrow a u32.
 fn level(depth: u32, dimension: u32) -> u32
     requires { 1 ≤ dimension }
-    ensures { result ≡ levelOf dimension depth }
+    ensures { result ≡ level_of dimension depth }
 {
     if depth == 0 {
         return 0;

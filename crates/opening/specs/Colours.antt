@@ -18,12 +18,12 @@ colours E zero = []
 colours E (suc v) = colours E v ++ (free (taken E (colours E v) v) v ∷ [])
 
 -- the colour of vertex v
-abbrev pub colourOf : Cells → ℕ → ℕ
-colourOf E v = free (taken E (colours E v) v) v
+abbrev pub colour_of : Cells → ℕ → ℕ
+colour_of E v = free (taken E (colours E v) v) v
 
 -- 8: the colour of v is over 63
 abbrev pub garish : Cells → ℕ → Bool
-garish E v = ltb 63 (colourOf E v)
+garish E v = ltb 63 (colour_of E v)
 
 -- N, the largest colour
 unfoldable pub largest : List ℕ → ℕ

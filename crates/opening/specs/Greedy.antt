@@ -10,9 +10,9 @@ pub record SmallerNeighbour (E : Cells) (v u : ℕ) : Type 0 where
   pub other : ℕ
   pub there : element < E.count
   pub place_in : place < 4
-  pub other-in : other < 4
+  pub other_in : other < 4
   pub place_is : vertex E element place ≡ v
-  pub other-is : vertex E element other ≡ u
+  pub other_is : vertex E element other ≡ u
   pub less : u < v
 
 -- a neighbour of v of smaller number has the colour x

@@ -1,7 +1,7 @@
 -- Opening (01, "Opening" and "What comes back"): tests 1 to 8 in that order, each over the whole input before the next, the smallest place; or the opened mesh.
 use Rattle.std.specs.Prelude.{◌≡◌, List, ℕ, ◌/◌, length, get_or, Float}
 use Rattle.tables.specs.declared.record.Record.{Record}
-use Rattle.tables.specs.Layout.{pointAt, started, pointWidth}
+use Rattle.tables.specs.Layout.{point_at, started, point_width}
 use Rattle.tables.specs.Mesh.{Lent, Mesh, up_to, laid}
 use Rattle.tables.specs.Report.{Report, refusal, done}
 use Rattle.intake.specs.declared.answer.Verdict.{Verdict}
@@ -13,7 +13,7 @@ use Rattle.intake.specs.Cells.{Cells, quads}
 use Rattle.intake.specs.Causes.{same, third}
 use Rattle.intake.specs.Verdict.{at, plain, fitting}
 use Rattle.opening.specs.Colours.{colours, garish, largest}
-use Rattle.opening.specs.Order.{rootOf}
+use Rattle.opening.specs.Order.{root_of}
 
 -- tests 6 to 8, through the index
 unfoldable pub late : Cells → ℕ → Verdict
@@ -21,21 +21,21 @@ late E vertices = at (first (same E) E.count) 6 (at (first (third E) E.count) 7 
 
 -- all tests in their order
 unfoldable pub judged : List Float → List ℕ → ℕ → ℕ → ℕ → Verdict
-judged F E points records rows = fitting (length F) (length E) points records rows (plain F (quads E) (late (quads E) (length F / pointWidth)))
+judged F E points records rows = fitting (length F) (length E) points records rows (plain F (quads E) (late (quads E) (length F / point_width)))
 
 -- an initial vertex: its colour, then 4294967295 (01, "The tables")
 abbrev pub initial : ℕ → Record
 initial colour = record { first = colour; second = 4294967295 }
 
 -- the opened mesh: the points as given, the colours of Algorithm 2, the rows of Definition 2
-unfoldable pub openedMesh : List Float → Cells → Mesh
-openedMesh F E =
-    let vertices = length F / pointWidth in
+unfoldable pub opened_mesh : List Float → Cells → Mesh
+opened_mesh F E =
+    let vertices = length F / point_width in
     let cs = colours E vertices in
     record {
-      points = up_to (pointAt F) vertices;
+      points = up_to (point_at F) vertices;
       records = up_to (λ v. initial (get_or cs v 0)) vertices;
-      rows = up_to (rootOf (largest cs) (λ v. get_or cs v 0) E) E.count;
+      rows = up_to (root_of (largest cs) (λ v. get_or cs v 0) E) E.count;
     }
 
 -- the answer: the counts of the mesh, or the refusal
@@ -56,16 +56,16 @@ report verdict.Passed vertices rows = done (started vertices rows) 0
 -- the tables: as at entry where refused, else the mesh and zeros after it, to the end of the lent tables
 abbrev pub tables : Verdict → List Float → List ℕ → Lent → Lent
 tables (verdict.Refused n p) F E t = t
-tables verdict.Passed F E t = laid (openedMesh F (quads E)) (length t.points) (length t.records) (length t.rows)
+tables verdict.Passed F E t = laid (opened_mesh F (quads E)) (length t.points) (length t.records) (length t.rows)
 
-abbrev pub verdictOn : List Float → List ℕ → Lent → Verdict
-verdictOn F E t = judged F E (length t.points) (length t.records) (length t.rows)
+abbrev pub verdict_on : List Float → List ℕ → Lent → Verdict
+verdict_on F E t = judged F E (length t.points) (length t.records) (length t.rows)
 
 abbrev pub lent : List Float → List ℕ → List ℕ → Lent
 lent points records rows = record { points = points; records = records; rows = rows }
 
 -- The promise of opening F and E into the lent tables t: the answer r, and the tables t' afterwards.
 pub record Opens (F : List Float) (E : List ℕ) (t : Lent) (r : Opened) (t' : Lent) : Type 0 where
-  pub answers : r ≡ answer (verdictOn F E t) (length F / pointWidth) (length E / 4)
-  pub reports : reported r ≡ report (verdictOn F E t) (length F / pointWidth) (length E / 4)
-  pub leaves : t' ≡ tables (verdictOn F E t) F E t
+  pub answers : r ≡ answer (verdict_on F E t) (length F / point_width) (length E / 4)
+  pub reports : reported r ≡ report (verdict_on F E t) (length F / point_width) (length E / 4)
+  pub leaves : t' ≡ tables (verdict_on F E t) F E t

@@ -14,7 +14,7 @@ lower colour a b = cond (ltb (colour b) (colour a)) b a
 abbrev pub upper : (ℕ → ℕ) → ℕ → ℕ → ℕ
 upper colour a b = cond (ltb (colour b) (colour a)) a b
 
--- vertices sorted by colour, by five comparisons: 0 with 1, 2 with 3, 0 with 2, 1 with 3, 1 with 2 (the law `sorted-rising` says that this sorts)
+-- vertices sorted by colour, by five comparisons: 0 with 1, 2 with 3, 0 with 2, 1 with 3, 1 with 2 (the law `sorted_rising` says that this sorts)
 abbrev pub outer : (ℕ → ℕ) → ℕ → ℕ → ℕ → ℕ → Corners ℕ
 outer f a b c d = corners (lower f a c) (lower f b d) (upper f a c) (upper f b d)
 
@@ -28,5 +28,5 @@ abbrev pub given : Cells → ℕ → Corners ℕ
 given E k = corners (vertex E k 0) (vertex E k 1) (vertex E k 2) (vertex E k 3)
 
 -- element k becomes row k, of tag 3: its vertices sorted by colour, the last in front exactly if its colour is N
-unfoldable pub rootOf : ℕ → (ℕ → ℕ) → Cells → ℕ → Row
-rootOf N colour E k = root (number three) k (arranged three N colour (sorted colour (given E k)))
+unfoldable pub root_of : ℕ → (ℕ → ℕ) → Cells → ℕ → Row
+root_of N colour E k = root (number three) k (arranged three N colour (sorted colour (given E k)))

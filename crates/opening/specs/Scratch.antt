@@ -1,6 +1,6 @@
 -- The tables of a call while opening looks at the input: the index, its heads before its links, and the colours; and what each step keeps true of them. Nothing here is promised to callers.
 use Rattle.std.specs.Prelude.{◌≡◌, Bool, true, false, ◌&&◌, ◌||◌, cond, ◌⊎◌, List, ℕ, zero, suc, ◌+◌, ◌*◌, ◌/◌, ◌%◌, ◌≤◌, ◌<◌, max, eqb, ltb, leb, length, get_or, set, replicate, Float}
-use Rattle.tables.specs.Layout.{mostRows, mostVertices, pointWidth, recordWidth, rowWidth}
+use Rattle.tables.specs.Layout.{most_rows, most_vertices, point_width, record_width, row_width}
 use Rattle.chain.specs.Chain.{Indexed}
 use Rattle.intake.specs.declared.answer.Found.{Found}
 use Rattle.intake.specs.declared.answer.Found.TheVariants.{Nowhere}
@@ -16,11 +16,11 @@ use Rattle.intake.specs.Cells.{Cells, quads}
 use Rattle.intake.specs.Causes.{vertex, has, before, same, third}
 use Rattle.opening.specs.Colours.{taken, colours, garish}
 
-abbrev pub linksAt : ℕ
-linksAt = mostVertices
+abbrev pub links_at : ℕ
+links_at = most_vertices
 
-abbrev pub paintLength : ℕ
-paintLength = mostVertices
+abbrev pub paint_length : ℕ
+paint_length = most_vertices
 
 -- the key of corner slot i: four slots an element
 abbrev pub slot : Cells → ℕ → ℕ
@@ -28,22 +28,22 @@ slot E i = vertex E (i / 4) (i % 4)
 
 -- elements that passed tests 1, 2, 4 and 5
 pub record Plain (vertices : ℕ) (E : Cells) : Type 0 where
-  pub few : E.count ≤ mostRows
-  pub most : vertices ≤ mostVertices
+  pub few : E.count ≤ most_rows
+  pub most : vertices ≤ most_vertices
   pub there : (k q : ℕ) → k < E.count → q < 4 → vertex E k q < vertices
   pub apart : (k p q : ℕ) → k < E.count → p < 4 → q < 4 → vertex E k p ≡ vertex E k q → p ≡ q
 
 -- lengths that passed tests 1 and 2
 pub record Roomy (coordinates elements points records rows : ℕ) : Type 0 where
-  pub whole : (coordinates / pointWidth) * 3 ≡ coordinates
-  pub points-fit : pointWidth * (coordinates / pointWidth) ≤ points
-  pub records-fit : recordWidth * (coordinates / pointWidth) ≤ records
-  pub rows_fit : rowWidth * (elements / 4) ≤ rows
+  pub whole : (coordinates / point_width) * 3 ≡ coordinates
+  pub points_fit : point_width * (coordinates / point_width) ≤ points
+  pub records_fit : record_width * (coordinates / point_width) ≤ records
+  pub rows_fit : row_width * (elements / 4) ≤ rows
 
 -- an index with room for all corner slots that has the first n of them
 pub record Filled (E : Cells) (n : ℕ) (table : List ℕ) : Type 0 where
-  pub room : linksAt + 4 * E.count ≤ length table
-  pub index : Indexed (slot E) n linksAt table
+  pub room : links_at + 4 * E.count ≤ length table
+  pub index : Indexed (slot E) n links_at table
 
 -- every corner slot is in the index
 abbrev pub Ready : Cells → List ℕ → Type 0
@@ -51,7 +51,7 @@ Ready E index = Filled E (4 * E.count) index
 
 -- a table of colours, all zero
 pub record Clear (paint : List ℕ) : Type 0 where
-  pub size : length paint ≡ paintLength
+  pub size : length paint ≡ paint_length
   pub zeros : (u : ℕ) → get_or paint u 0 ≡ 0
 
 -- a place of an element, one of two
@@ -66,10 +66,10 @@ pub record Other (m r : ℕ) : Type 0 where
 
 -- counts that one more element leaves in range
 pub record Few (s : Seen) : Type 0 where
-  pub all : s.all ≤ 4 * mostRows
-  pub ab : s.ab ≤ 4 * mostRows
-  pub ac : s.ac ≤ 4 * mostRows
-  pub bc : s.bc ≤ 4 * mostRows
+  pub all : s.all ≤ 4 * most_rows
+  pub ab : s.ab ≤ 4 * most_rows
+  pub ac : s.ac ≤ 4 * most_rows
+  pub bc : s.bc ≤ 4 * most_rows
 
 -- 1 where the test holds
 abbrev pub one : Bool → ℕ
@@ -104,8 +104,8 @@ place_of w (suc zero) = w.b
 place_of w (suc (suc zero)) = w.c
 place_of w (suc (suc (suc q))) = w.d
 
-unfoldable pub turnedOf : Four → ℕ → Four
-turnedOf w m = record { a = place_of w m; b = place_of w ((m + 1) % 4); c = place_of w ((m + 2) % 4); d = place_of w ((m + 3) % 4) }
+unfoldable pub turned_of : Four → ℕ → Four
+turned_of w m = record { a = place_of w m; b = place_of w ((m + 1) % 4); c = place_of w ((m + 2) % 4); d = place_of w ((m + 3) % 4) }
 
 -- one element more, which holds a, b, c or not
 unfoldable pub noted : Bool → Bool → Bool → Seen → Seen
@@ -153,8 +153,8 @@ Flags = replicate 64 0
 unfoldable pub marked : List ℕ → ℕ → ℕ → List ℕ → List ℕ
 marked paint v u flags = cond (ltb u v) (set flags (get_or paint (u) 0) 1) flags
 
-unfoldable pub markedAll : Cells → List ℕ → ℕ → ℕ → List ℕ → List ℕ
-markedAll E paint v k flags =
+unfoldable pub marked_all : Cells → List ℕ → ℕ → ℕ → List ℕ → List ℕ
+marked_all E paint v k flags =
     marked paint v (vertex E k 3) (marked paint v (vertex E k 2) (marked paint v (vertex E k 1) (marked paint v (vertex E k 0) flags)))
 
 -- flag c is set exactly if a smaller neighbour of v has the colour c
@@ -170,7 +170,7 @@ unmarked flags (suc n) = cond (ltb (unmarked flags n) n) (unmarked flags n) (con
 -- the smallest vertex with a colour over 63; where there is none, all colours stand in the table
 pub record Coloured (vertices : ℕ) (E : Cells) (r : Found) (paint : List ℕ) : Type 0 where
   pub answer : r ≡ first (garish E) vertices
-  pub size : length paint ≡ paintLength
+  pub size : length paint ≡ paint_length
   pub painted : r ≡ Nowhere → Painted E vertices paint
 
 -- the verdict of tests 6 and 7; where they pass, every corner slot is in the index
@@ -181,13 +181,13 @@ pub record Sifted (E : Cells) (r : Verdict) (index : List ℕ) : Type 0 where
 -- the verdict of tests 6 to 8; where they pass, all colours stand in the table
 pub record Judged (vertices : ℕ) (E : Cells) (r : Verdict) (paint : List ℕ) : Type 0 where
   pub answer : r ≡ late E vertices
-  pub size : length paint ≡ paintLength
+  pub size : length paint ≡ paint_length
   pub painted : r ≡ Passed → Painted E vertices paint
 
 -- an input within capacity
 pub record Moderate (coordinates elements : ℕ) : Type 0 where
-  pub few-coordinates : coordinates ≤ pointWidth * mostVertices
-  pub few-elements : elements ≤ mostRows
+  pub few_coordinates : coordinates ≤ point_width * most_vertices
+  pub few_elements : elements ≤ most_rows
 
 -- and an index for it that has no slot yet
 pub record Given (coordinates : ℕ) (E : Cells) (index : List ℕ) : Type 0 where
@@ -196,27 +196,27 @@ pub record Given (coordinates : ℕ) (E : Cells) (index : List ℕ) : Type 0 whe
 
 -- the verdict of tests 3 to 8; where they pass, the elements are plain and all colours stand in the table
 pub record Passing (F : List Float) (E : Cells) (r : Verdict) (paint : List ℕ) : Type 0 where
-  pub answer : r ≡ plain F E (late E (length F / pointWidth))
-  pub size : length paint ≡ paintLength
-  pub plain : r ≡ Passed → Plain (length F / pointWidth) E
-  pub painted : r ≡ Passed → Painted E (length F / pointWidth) paint
+  pub answer : r ≡ plain F E (late E (length F / point_width))
+  pub size : length paint ≡ paint_length
+  pub plain : r ≡ Passed → Plain (length F / point_width) E
+  pub painted : r ≡ Passed → Painted E (length F / point_width) paint
 
 -- all that storing the opened mesh relies on
 pub record Storable (F : List Float) (E paint : List ℕ) (points records rows : ℕ) : Type 0 where
-  pub plain : Plain (length F / pointWidth) (quads E)
-  pub size : length paint ≡ paintLength
-  pub painted : Painted (quads E) (length F / pointWidth) paint
+  pub plain : Plain (length F / point_width) (quads E)
+  pub size : length paint ≡ paint_length
+  pub painted : Painted (quads E) (length F / point_width) paint
   pub room : Roomy (length F) (length E) points records rows
 
 -- the verdict of all tests; where they pass, the input is plain and all colours stand in the table
 pub record Settled (F : List Float) (E : List ℕ) (points records rows : ℕ) (r : Verdict) (paint : List ℕ) : Type 0 where
   pub answer : r ≡ judged F E points records rows
-  pub size : length paint ≡ paintLength
+  pub size : length paint ≡ paint_length
   pub storable : r ≡ Passed → Storable F E paint points records rows
 
 -- the colour of v as the table has it
-abbrev pub colourIn : List ℕ → ℕ → ℕ
-colourIn paint v = get_or paint (v) 0
+abbrev pub colour_in : List ℕ → ℕ → ℕ
+colour_in paint v = get_or paint (v) 0
 
 -- the largest of the first v colours of a table
 unfoldable pub most_of : List ℕ → ℕ → ℕ

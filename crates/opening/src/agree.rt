@@ -1,9 +1,9 @@
 // Whether tables hold what opening would give: the same colours and, but for the first child, the same rows.
 ghost use Rattle.std.specs.Prelude.{◌≡◌, true, ◌&&◌, ◌≤◌, length, replicate};
-ghost use Rattle.tables.specs.Layout.{mostVertices};
-ghost use Rattle.intake.specs.Cells.{gridOf, cells};
-ghost use Rattle.opening.specs.Agree.{sameRecord, recordsAgree, rowsAgree, agreed, workable};
-ghost use Rattle.opening.specs.Scratch.{Plain, colourIn, paintLength, Given};
+ghost use Rattle.tables.specs.Layout.{most_vertices};
+ghost use Rattle.intake.specs.Cells.{grid_of, cells};
+ghost use Rattle.opening.specs.Agree.{same_record, records_agree, rows_agree, agreed, workable};
+ghost use Rattle.opening.specs.Scratch.{Plain, colour_in, paint_length, Given};
 
 use crate::colours::largest_colour;
 use crate::index::LINKS;
@@ -18,7 +18,7 @@ use tables::layout::{MOST_ROWS, MOST_VERTICES, POINT};
 use tables::record::Record;
 
 fn same_record(a: Record, b: Record) -> bool
-    ensures { result ≡ sameRecord a b }
+    ensures { result ≡ same_record a b }
 {
     if a.first == b.first {
         return a.second == b.second;
@@ -27,9 +27,9 @@ fn same_record(a: Record, b: Record) -> bool
 }
 
 fn records_agree(paint: &[u32], vertices: usize, records: &[u32]) -> bool
-    requires paint_len { length paint.now ≡ paintLength }
-    requires vertices_le_most_vertices { vertices ≤ mostVertices }
-    ensures { result ≡ recordsAgree (colourIn paint.now) records.now vertices }
+    requires paint_len { length paint.now ≡ paint_length }
+    requires vertices_le_most_vertices { vertices ≤ most_vertices }
+    ensures { result ≡ records_agree (colour_in paint.now) records.now vertices }
 {
     let mut v = 0usize;
     while v < vertices {
@@ -51,8 +51,8 @@ fn rows_agree(
     rows: &[u32],
 ) -> bool
     requires plain { Plain vertices (cells elements.now grid) }
-    requires paint_len { length paint.now ≡ paintLength }
-    ensures { result ≡ rowsAgree n (colourIn paint.now) (cells elements.now grid) rows.now grid.count }
+    requires paint_len { length paint.now ≡ paint_length }
+    ensures { result ≡ rows_agree n (colour_in paint.now) (cells elements.now grid) rows.now grid.count }
 {
     let count = grid.count;
     let mut k = 0usize;
@@ -90,8 +90,8 @@ fn compare(
     count: usize,
     index: &mut [u32],
 ) -> bool
-    requires { Given (length coordinates.now) (cells rows.now (gridOf true count)) index.old }
-    ensures { result ≡ agreed coordinates.now (cells rows.now (gridOf true count)) records.now rows.now }
+    requires { Given (length coordinates.now) (cells rows.now (grid_of true count)) index.old }
+    ensures { result ≡ agreed coordinates.now (cells rows.now (grid_of true count)) records.now rows.now }
 {
     let vertices = coordinates.len() / POINT;
     let grid = Grid { rows: true, count };
@@ -119,7 +119,7 @@ pub fn agrees(
     count: usize,
     index: &mut [u32],
 ) -> bool
-    ensures value { result ≡ (workable (length coordinates.now) count (length index.old) && agreed coordinates.now (cells rows.now (gridOf true count)) records.now rows.now) }
+    ensures value { result ≡ (workable (length coordinates.now) count (length index.old) && agreed coordinates.now (cells rows.now (grid_of true count)) records.now rows.now) }
     ensures index_after { index.new ≡ replicate (length index.old) 0 }
 {
     clear(index);

@@ -1,9 +1,9 @@
 // Number 8 and the colours of Algorithm 2, in number order, through the index.
 ghost use Rattle.std.specs.Prelude.{◌≡◌, ◌<◌, ◌≤◌, min, length};
-ghost use Rattle.tables.specs.Layout.{mostVertices};
+ghost use Rattle.tables.specs.Layout.{most_vertices};
 ghost use Rattle.intake.specs.Cells.{cells};
-ghost use Rattle.opening.specs.Colours.{colourOf};
-ghost use Rattle.opening.specs.Scratch.{paintLength, Plain, Ready, Clear, Painted, Flags, Marks, marked, markedAll, unmarked, most_of, Coloured};
+ghost use Rattle.opening.specs.Colours.{colour_of};
+ghost use Rattle.opening.specs.Scratch.{paint_length, Plain, Ready, Clear, Painted, Flags, Marks, marked, marked_all, unmarked, most_of, Coloured};
 
 use crate::index::LINKS;
 use chain::wide;
@@ -12,8 +12,8 @@ use intake::grid::{Grid, corners};
 
 // Marks the colour of u where it is smaller than v.
 fn mark(paint: &[u32], v: usize, u: usize, flags: &mut [u32])
-    requires paint_len { length paint.now ≡ paintLength }
-    requires u_lt_most_vertices { u < mostVertices }
+    requires paint_len { length paint.now ≡ paint_length }
+    requires u_lt_most_vertices { u < most_vertices }
     ensures { flags.new ≡ marked paint.now v u flags.old }
 {
     if u < v {
@@ -35,9 +35,9 @@ fn mark_element(
     flags: &mut [u32],
 )
     requires plain { Plain vertices (cells elements.now grid) }
-    requires paint_len { length paint.now ≡ paintLength }
+    requires paint_len { length paint.now ≡ paint_length }
     requires k_lt_count { k < grid.count }
-    ensures { flags.new ≡ markedAll (cells elements.now grid) paint.now v k flags.old }
+    ensures { flags.new ≡ marked_all (cells elements.now grid) paint.now v k flags.old }
 {
     let w = corners(elements, grid, k);
     mark(paint, v, wide(w.a), flags);
@@ -59,7 +59,7 @@ fn mark_neighbours(
     requires plain { Plain vertices (cells elements.now grid) }
     requires ready { Ready (cells elements.now grid) index.now }
     requires painted { Painted (cells elements.now grid) v paint.now }
-    requires paint_len { length paint.now ≡ paintLength }
+    requires paint_len { length paint.now ≡ paint_length }
     requires v_lt_vertices { v < vertices }
     requires flags_value { flags.old ≡ Flags }
     ensures { Marks (cells elements.now grid) v flags.new }
@@ -99,9 +99,9 @@ fn colour_at(
     requires plain { Plain vertices (cells elements.now grid) }
     requires ready { Ready (cells elements.now grid) index.now }
     requires painted { Painted (cells elements.now grid) v paint.now }
-    requires paint_len { length paint.now ≡ paintLength }
+    requires paint_len { length paint.now ≡ paint_length }
     requires v_lt_vertices { v < vertices }
-    ensures { result ≡ min 64 (colourOf (cells elements.now grid) v) }
+    ensures { result ≡ min 64 (colour_of (cells elements.now grid) v) }
 {
     let mut flags = [0u32; 64];
     mark_neighbours(elements, grid, index, paint, vertices, v, &mut flags);
@@ -135,8 +135,8 @@ pub fn colour_all(
 
 // The largest of the first colours.
 pub fn largest_colour(paint: &[u32], vertices: usize) -> u32
-    requires paint_len { length paint.now ≡ paintLength }
-    requires vertices_le_most_vertices { vertices ≤ mostVertices }
+    requires paint_len { length paint.now ≡ paint_length }
+    requires vertices_le_most_vertices { vertices ≤ most_vertices }
     ensures { result ≡ most_of paint.now vertices }
 {
     let mut most = 0u32;

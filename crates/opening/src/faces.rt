@@ -1,8 +1,8 @@
 // Numbers 6 and 7 at one element, through the index of the elements before it: the same four vertices before, a face in two elements before.
 ghost use Rattle.std.specs.Prelude.{◌≡◌, ◌*◌, ◌/◌, ◌<◌, ◌+◌, length};
-ghost use Rattle.intake.specs.Cells.{cells, fourOf};
+ghost use Rattle.intake.specs.Cells.{cells, four_of};
 ghost use Rattle.intake.specs.Causes.{has};
-ghost use Rattle.opening.specs.Scratch.{Plain, Filled, Chosen, Other, Is, Different, turnedOf, Held, Few, noted, Counted, crowd, Around, Meets};
+ghost use Rattle.opening.specs.Scratch.{Plain, Filled, Chosen, Other, Is, Different, turned_of, Held, Few, noted, Counted, crowd, Around, Meets};
 
 use crate::index::{LINKS, place};
 use chain::wide;
@@ -44,7 +44,7 @@ fn holds(w: Four, v: u32) -> u32
 
 // Element j is seen: which of a, b and c it holds.
 fn note(elements: &[u32], grid: Grid, j: usize, a: u32, b: u32, c: u32, s: Seen) -> Seen
-    requires different { Different (fourOf (cells elements.now grid) j) }
+    requires different { Different (four_of (cells elements.now grid) j) }
     requires few { Few s }
     ensures { result ≡ noted (has (cells elements.now grid) j a) (has (cells elements.now grid) j b) (has (cells elements.now grid) j c) s }
 {
@@ -144,7 +144,7 @@ fn crowded(s: Seen) -> bool
 // Four vertices from place m on.
 fn turned(w: Four, m: usize) -> Four
     requires { m < 4 }
-    ensures { result ≡ turnedOf w m }
+    ensures { result ≡ turned_of w m }
 {
     Four {
         a: place(w, m),
@@ -167,7 +167,7 @@ fn around(
     requires plain { Plain vertices (cells elements.now grid) }
     requires filled { Filled (cells elements.now grid) (4 * k) index.now }
     requires k_lt_count { k < grid.count }
-    requires w_value { w ≡ fourOf (cells elements.now grid) k }
+    requires w_value { w ≡ four_of (cells elements.now grid) k }
     requires m_bound { m < 4 }
     ensures { Around (cells elements.now grid) k m result }
 {

@@ -2,7 +2,7 @@
 ghost use Rattle.std.specs.Prelude.{◌≡◌, length};
 ghost use Rattle.intake.specs.Cells.{cells};
 ghost use Rattle.intake.specs.declared.answer.Verdict.TheVariants.{Passed};
-ghost use Rattle.intake.specs.Search.{orAt};
+ghost use Rattle.intake.specs.Search.{or_at};
 ghost use Rattle.opening.specs.Scratch.{Plain, Filled, Clear, Sifted, Judged, Moderate, Given, Passing, Settled};
 
 use crate::colours::colour_all;
@@ -15,7 +15,7 @@ use tables::layout::{MOST_VERTICES, POINT};
 
 // What was found, or else place k where the test holds there.
 fn or_at(found: Found, met: bool, k: usize) -> Found
-    ensures { result ≡ orAt found met k }
+    ensures { result ≡ or_at found met k }
 {
     if let Found::At(place) = found {
         return Found::At(place);

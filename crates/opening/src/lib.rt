@@ -16,7 +16,7 @@ mod store;
 ghost use Rattle.std.specs.Prelude.{◌≡◌, length};
 ghost use Rattle.intake.specs.Cells.{quads};
 ghost use Rattle.tables.specs.Mesh.{laid};
-ghost use Rattle.opening.specs.Opening.{Opens, lent, openedMesh};
+ghost use Rattle.opening.specs.Opening.{Opens, lent, opened_mesh};
 ghost use Rattle.opening.specs.Scratch.{Storable};
 
 // Writes the opened tables, whole.
@@ -29,7 +29,7 @@ fn store_all(
     rows: &mut [u32],
 )
     requires { Storable coordinates.now elements.now paint.now (length points.old) (length records.old) (length rows.old) }
-    ensures { lent points.new records.new rows.new ≡ laid (openedMesh coordinates.now (quads elements.now)) (length points.old) (length records.old) (length rows.old) }
+    ensures { lent points.new records.new rows.new ≡ laid (opened_mesh coordinates.now (quads elements.now)) (length points.old) (length records.old) (length rows.old) }
 {
     let vertices = coordinates.len() / POINT;
     let grid = Grid {

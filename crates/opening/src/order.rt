@@ -1,12 +1,12 @@
 // The order of a root's vertices: sorted by colour, the last in front exactly if its colour is N (Definition 2).
 ghost use Rattle.std.specs.Prelude.{◌≡◌, ◌<◌, length};
-ghost use Rattle.tables.specs.Layout.{mostVertices};
+ghost use Rattle.tables.specs.Layout.{most_vertices};
 ghost use Rattle.intake.specs.Cells.{cells};
 ghost use Rattle.split.specs.Split.{three};
 ghost use Rattle.forest.specs.Start.{arranged};
-ghost use Rattle.opening.specs.Order.{sorted, rootOf};
-ghost use Rattle.opening.specs.Scratch.{paintLength, Plain, colourIn};
-ghost use Rattle.opening.specs.Sorting.{four, inOrder, Low};
+ghost use Rattle.opening.specs.Order.{sorted, root_of};
+ghost use Rattle.opening.specs.Scratch.{paint_length, Plain, colour_in};
+ghost use Rattle.opening.specs.Sorting.{four, in_order, Low};
 
 use intake::grid::{Four, Grid, corners};
 use split::row::{Row, root};
@@ -19,18 +19,18 @@ pub struct Two {
 }
 
 fn colour_in(paint: &[u32], v: u32) -> u32
-    requires paint_len { length paint.now ≡ paintLength }
-    requires v_lt_most_vertices { v < mostVertices }
-    ensures { result ≡ colourIn paint.now v }
+    requires paint_len { length paint.now ≡ paint_length }
+    requires v_lt_most_vertices { v < most_vertices }
+    ensures { result ≡ colour_in paint.now v }
 {
     paint[v as usize]
 }
 
 fn pair(paint: &[u32], a: u32, b: u32) -> Two
-    requires paint_len { length paint.now ≡ paintLength }
-    requires a_lt_most_vertices { a < mostVertices }
-    requires b_lt_most_vertices { b < mostVertices }
-    ensures { result ≡ inOrder (colourIn paint.now) a b }
+    requires paint_len { length paint.now ≡ paint_length }
+    requires a_lt_most_vertices { a < most_vertices }
+    requires b_lt_most_vertices { b < most_vertices }
+    ensures { result ≡ in_order (colour_in paint.now) a b }
 {
     let x = colour_in(paint, a);
     let y = colour_in(paint, b);
@@ -41,9 +41,9 @@ fn pair(paint: &[u32], a: u32, b: u32) -> Two
 }
 
 fn sort(paint: &[u32], w: Four) -> Four
-    requires paint_len { length paint.now ≡ paintLength }
+    requires paint_len { length paint.now ≡ paint_length }
     requires low { Low w }
-    ensures { (four result ≡ sorted (colourIn paint.now) (four w)) × Low result }
+    ensures { (four result ≡ sorted (colour_in paint.now) (four w)) × Low result }
 {
     let p = pair(paint, w.a, w.b);
     let q = pair(paint, w.c, w.d);
@@ -59,9 +59,9 @@ fn sort(paint: &[u32], w: Four) -> Four
 }
 
 fn arrange(paint: &[u32], n: u32, w: Four) -> Four
-    requires paint_len { length paint.now ≡ paintLength }
+    requires paint_len { length paint.now ≡ paint_length }
     requires low { Low w }
-    ensures { four result ≡ arranged three n (colourIn paint.now) (four w) }
+    ensures { four result ≡ arranged three n (colour_in paint.now) (four w) }
 {
     let last = colour_in(paint, w.d);
     if last == n {
@@ -85,10 +85,10 @@ pub fn root_row(
     k: usize,
 ) -> Row
     requires plain { Plain vertices (cells elements.now grid) }
-    requires paint_len { length paint.now ≡ paintLength }
+    requires paint_len { length paint.now ≡ paint_length }
     requires k_lt_count { k < grid.count }
     requires k_bound { k < 4294967296 }
-    ensures { result ≡ rootOf n (colourIn paint.now) (cells elements.now grid) k }
+    ensures { result ≡ root_of n (colour_in paint.now) (cells elements.now grid) k }
 {
     let w = corners(elements, grid, k);
     let f = arrange(paint, n, sort(paint, w));

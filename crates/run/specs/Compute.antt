@@ -3,7 +3,7 @@ use Rattle.std.specs.Prelude.{true, false, List, [], ◌∷◌, ℕ, zero, suc, 
 use Rattle.std.proofs.Math.Option.{Option, none, some}
 use Rattle.intake.specs.declared.answer.Found.TheVariants.{At, Nowhere}
 use Rattle.run.specs.Skeleton.{Skeleton, row_in}
-use Rattle.run.specs.Run.{blocking, splitPatch}
+use Rattle.run.specs.Run.{blocking, split_patch}
 
 -- go on where there is a result
 abbrev pub and_then : Option Skeleton → (Skeleton → Option Skeleton) → Option Skeleton
@@ -13,14 +13,14 @@ and_then (some T) next = next T
 -- leaf r refined; nothing where the steps do not suffice
 unfoldable pub refine : ℕ → Skeleton → ℕ → Option Skeleton
 refine zero S r = none
-refine (suc n) S r = elim (blocking S.rows r) [ Nowhere ↦ some (splitPatch S r) | At b ↦ and_then (refine n S b) (λ T. refine n T r) ]
+refine (suc n) S r = elim (blocking S.rows r) [ Nowhere ↦ some (split_patch S r) | At b ↦ and_then (refine n S b) (λ T. refine n T r) ]
 
 -- the marks in list order, a row already split passed over
-unfoldable pub refineAll : ℕ → Skeleton → List ℕ → Option Skeleton
-refineAll n S [] = some S
-refineAll n S (r ∷ rs) = elim (eqb (row_in S.rows r).child 0) [ true ↦ and_then (refine n S r) (λ T. refineAll n T rs) | false ↦ refineAll n S rs ]
+unfoldable pub refine_all : ℕ → Skeleton → List ℕ → Option Skeleton
+refine_all n S [] = some S
+refine_all n S (r ∷ rs) = elim (eqb (row_in S.rows r).child 0) [ true ↦ and_then (refine n S r) (λ T. refine_all n T rs) | false ↦ refine_all n S rs ]
 
 -- one call after the other, each given by its marks
-unfoldable pub refineCalls : ℕ → Skeleton → List (List ℕ) → Option Skeleton
-refineCalls n S [] = some S
-refineCalls n S (c ∷ cs) = and_then (refineAll n S c) (λ T. refineCalls n T cs)
+unfoldable pub refine_calls : ℕ → Skeleton → List (List ℕ) → Option Skeleton
+refine_calls n S [] = some S
+refine_calls n S (c ∷ cs) = and_then (refine_all n S c) (λ T. refine_calls n T cs)

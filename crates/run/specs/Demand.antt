@@ -7,7 +7,7 @@ use Rattle.forest.specs.Element.{Name, Forest, Element, depth, middle, shape}
 use Rattle.forest.specs.Closed.{Forced}
 use Rattle.forest.specs.Union.{Either}
 use Rattle.sound.specs.Sound.{row_of}
-use Rattle.sound.specs.Forest.{forestOf, elementOf, SplitOf}
+use Rattle.sound.specs.Forest.{forest_of, element_of, SplitOf}
 
 -- ---- whether depth or room refuses a set of splits
 
@@ -34,21 +34,21 @@ pub data OutgrowsIn (room : Size) (F : Forest) (initials : ℕ) (S : Element →
 pub record MarkedIn (m : Mesh) (t : ℕ) (marks : List ℕ) (e : Element) : Type 0 where
   pub row : ℕ
   pub listed : Memᴰ row marks
-  pub is : elementOf m t row ≡ e
+  pub is : element_of m t row ≡ e
 
 -- the elements of marked rows (demand 3, "taken as elements and not as row numbers")
-abbrev pub markedElements : Mesh → ℕ → List ℕ → List Element
-markedElements m t marks = map (elementOf m t) marks
+abbrev pub marked_elements : Mesh → ℕ → List ℕ → List Element
+marked_elements m t marks = map (element_of m t) marks
 
 -- the smallest closed set that holds the elements already split and all those marked (01, "What comes back")
 abbrev pub Needed : Mesh → ℕ → List ℕ → Element → Type 0
-Needed m t marks = Forced (forestOf m t) (Either (SplitOf m t) (MarkedIn m t marks))
+Needed m t marks = Forced (forest_of m t) (Either (SplitOf m t) (MarkedIn m t marks))
 
 -- depth refuses it
 unfoldable pub Deep : Mesh → ℕ → List ℕ → Type 0
 Deep m t marks = DeepIn (Needed m t marks)
 
--- some marked row is a leaf of depth 60 (02, L9): exactly then depth refuses it (`deep-exactly` of proofs/laws/Needs.antt)
+-- some marked row is a leaf of depth 60 (02, L9): exactly then depth refuses it (`deep_exactly` of proofs/laws/Needs.antt)
 pub record MarkedDeep (m : Mesh) (marks : List ℕ) : Type 0 where
   pub row : ℕ
   pub listed : Memᴰ row marks
@@ -58,4 +58,4 @@ pub record MarkedDeep (m : Mesh) (marks : List ℕ) : Type 0 where
 
 -- room refuses it
 unfoldable pub Outgrows : Size → Mesh → ℕ → ℕ → List ℕ → Type 0
-Outgrows room m i t marks = OutgrowsIn room (forestOf m t) i (Needed m t marks)
+Outgrows room m i t marks = OutgrowsIn room (forest_of m t) i (Needed m t marks)

@@ -1,13 +1,13 @@
 -- The state in which closure works, and what falls while it does.
 use Rattle.std.specs.Prelude.{◌≡◌, List, [], ℕ, ◌≤◌, ◌<◌, eqb, length, get_or}
 use Rattle.split.specs.declared.point.Point.{Point}
-use Rattle.tables.specs.Layout.{noRecord}
+use Rattle.tables.specs.Layout.{no_record}
 use Rattle.tables.specs.Mesh.{Mesh}
 use Rattle.forest.specs.Element.{shape}
-use Rattle.forest.specs.Generation.{rank, edgeGen}
+use Rattle.forest.specs.Generation.{rank, edge_gen}
 use Rattle.intake.specs.Search.{count}
 use Rattle.sound.specs.Sound.{Grown, Conforming}
-use Rattle.sound.specs.Forest.{forestOf, colourIn, largestIn, elementOf}
+use Rattle.sound.specs.Forest.{forest_of, colour_in, largest_in, element_of}
 use Rattle.run.specs.Skeleton.{Skeleton, row_in, meshed}
 use Rattle.run.specs.Run.{Run}
 
@@ -34,9 +34,9 @@ pub data Reach (S : Skeleton) : Skeleton → Type 0 where
   onward : {T U : Skeleton} {r : ℕ} → Reach S T → Open T r → Run T r U → length U.records < 4294967295 → Reach S U
 
 -- the rank of a row's edge (000, gen♯)
-abbrev pub edgeRank : Mesh → ℕ → ℕ → ℕ → ℕ
-edgeRank m i t r = rank (edgeGen (largestIn m i) (colourIn m i) (shape (forestOf m t) (elementOf m t r)))
+abbrev pub edge_rank : Mesh → ℕ → ℕ → ℕ → ℕ
+edge_rank m i t r = rank (edge_gen (largest_in m i) (colour_in m i) (shape (forest_of m t) (element_of m t r)))
 
 -- the same of a skeleton: how many vertices are initial and how many rows are roots can be told from it
-unfoldable pub rankIn : Skeleton → ℕ → ℕ
-rankIn S r = edgeRank (meshed [] S) (count (λ v. eqb (get_or S.records v noRecord).second 4294967295) (length S.records)) (count (λ q. eqb (row_in S.rows q).parent q) (length S.rows)) r
+unfoldable pub rank_in : Skeleton → ℕ → ℕ
+rank_in S r = edge_rank (meshed [] S) (count (λ v. eqb (get_or S.records v no_record).second 4294967295) (length S.records)) (count (λ q. eqb (row_in S.rows q).parent q) (length S.rows)) r

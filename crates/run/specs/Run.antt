@@ -2,7 +2,7 @@
 use Rattle.std.specs.Prelude.{◌≡◌, Bool, ◌&&◌, ◌||◌, cond, List, [], ◌∷◌, ◌++◌, ℕ, zero, suc, ◌≤◌, ◌<◌, eqb, length, set}
 use Rattle.split.specs.declared.row.Row.{Row}
 use Rattle.split.specs.declared.row.Ends.{Ends}
-use Rattle.split.specs.Row.{edge_of, withChild, first_of, second_of}
+use Rattle.split.specs.Row.{edge_of, with_child, first_of, second_of}
 use Rattle.tables.specs.declared.layout.Size.{Size}
 use Rattle.tables.specs.declared.record.Record.{Record}
 use Rattle.intake.specs.declared.answer.Found.{Found}
@@ -20,52 +20,52 @@ unfoldable pub holding : Ends → Row → Bool
 holding e r = eqb r.child 0 && has r e.small && has r e.large
 
 -- of the d rows from the given one on, those that are leaves holding both ends of e, in ascending row order
-unfoldable pub holdersFrom : List Row → Ends → ℕ → ℕ → List ℕ
-holdersFrom W e zero r = []
-holdersFrom W e (suc d) r = cond (holding e (row_in W r)) (r ∷ holdersFrom W e d (suc r)) (holdersFrom W e d (suc r))
+unfoldable pub holders_from : List Row → Ends → ℕ → ℕ → List ℕ
+holders_from W e zero r = []
+holders_from W e (suc d) r = cond (holding e (row_in W r)) (r ∷ holders_from W e d (suc r)) (holders_from W e d (suc r))
 
 -- the leaves holding both ends of e, in ascending row order (01, "Closure")
 abbrev pub holders : List Row → Ends → List ℕ
-holders W e = holdersFrom W e (length W) 0
+holders W e = holders_from W e (length W) 0
 
-unfoldable pub sameEnds : Ends → Ends → Bool
-sameEnds e f = eqb e.small f.small && eqb e.large f.large
+unfoldable pub same_ends : Ends → Ends → Bool
+same_ends e f = eqb e.small f.small && eqb e.large f.large
 
 -- the first of the given leaves whose own edge is not e
-unfoldable pub otherIn : List Row → Ends → List ℕ → Found
-otherIn W e [] = Nowhere
-otherIn W e (r ∷ rs) = cond (sameEnds (edge_of (row_in W r)) e) (otherIn W e rs) (At r)
+unfoldable pub other_in : List Row → Ends → List ℕ → Found
+other_in W e [] = Nowhere
+other_in W e (r ∷ rs) = cond (same_ends (edge_of (row_in W r)) e) (other_in W e rs) (At r)
 
 -- the leaf that is refined before r, if any (01, "Closure")
 abbrev pub blocking : List Row → ℕ → Found
-blocking W r = otherIn W (edge_of (row_in W r)) (holders W (edge_of (row_in W r)))
+blocking W r = other_in W (edge_of (row_in W r)) (holders W (edge_of (row_in W r)))
 
 -- ---- the split of a patch
 
 -- leaf s split at vertex v: its first child and then its second are appended (01, "Closure")
 unfoldable pub cut : ℕ → List Row → ℕ → List Row
-cut v W s = set W s (withChild (row_in W s) (length W)) ++ (first_of (row_in W s) s v ∷ second_of (row_in W s) s v ∷ [])
+cut v W s = set W s (with_child (row_in W s) (length W)) ++ (first_of (row_in W s) s v ∷ second_of (row_in W s) s v ∷ [])
 
 -- leaves split one after the other
-unfoldable pub cutAll : ℕ → List Row → List ℕ → List Row
-cutAll v W [] = W
-cutAll v W (s ∷ ss) = cutAll v (cut v W s) ss
+unfoldable pub cut_all : ℕ → List Row → List ℕ → List Row
+cut_all v W [] = W
+cut_all v W (s ∷ ss) = cut_all v (cut v W s) ss
 
-abbrev pub recordFor : Ends → Record
-recordFor e = record { first = e.small; second = e.large }
+abbrev pub record_for : Ends → Record
+record_for e = record { first = e.small; second = e.large }
 
 -- one vertex appended, the midpoint of r's edge, and all leaves holding both its ends split in ascending row order (01, "Closure")
-unfoldable pub splitPatch : Skeleton → ℕ → Skeleton
-splitPatch S r = record {
-  records = S.records ++ (recordFor (edge_of (row_in S.rows r)) ∷ []);
-  rows = cutAll (length S.records) S.rows (holders S.rows (edge_of (row_in S.rows r)));
+unfoldable pub split_patch : Skeleton → ℕ → Skeleton
+split_patch S r = record {
+  records = S.records ++ (record_for (edge_of (row_in S.rows r)) ∷ []);
+  rows = cut_all (length S.records) S.rows (holders S.rows (edge_of (row_in S.rows r)));
 }
 
 -- ---- the run
 
 -- refining leaf r leads from S to S' (01, "Closure")
 pub data Run : Skeleton → ℕ → Skeleton → Type 0 where
-  clear : {S S' : Skeleton} {r : ℕ} → blocking S.rows r ≡ Nowhere → S' ≡ splitPatch S r → Run S r S'
+  clear : {S S' : Skeleton} {r : ℕ} → blocking S.rows r ≡ Nowhere → S' ≡ split_patch S r → Run S r S'
   blocked : {S T S' : Skeleton} {r b : ℕ} → blocking S.rows r ≡ At b → Run S b T → Run T r S' → Run S r S'
 
 -- the marks in list order: a row already split is passed over (01, "Closure")
@@ -91,7 +91,7 @@ pub data Over (room : Size) (S : Skeleton) : Type 0 where
 
 -- refining leaf r comes to a patch whose split has no room
 pub data Stuck (room : Size) : Skeleton → ℕ → Type 0 where
-  full : {S : Skeleton} {r : ℕ} → blocking S.rows r ≡ Nowhere → Over room (splitPatch S r) → Stuck room S r
+  full : {S : Skeleton} {r : ℕ} → blocking S.rows r ≡ Nowhere → Over room (split_patch S r) → Stuck room S r
   below : {S : Skeleton} {r b : ℕ} → blocking S.rows r ≡ At b → Stuck room S b → Stuck room S r
   after : {S T : Skeleton} {r b : ℕ} → blocking S.rows r ≡ At b → Run S b T → Within room T → Stuck room T r → Stuck room S r
 

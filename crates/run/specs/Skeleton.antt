@@ -4,7 +4,7 @@ use Rattle.split.specs.declared.row.Row.{Row}
 use Rattle.split.specs.declared.point.Point.{Point}
 use Rattle.split.specs.Midpoint.{between}
 use Rattle.tables.specs.declared.record.Record.{Record}
-use Rattle.tables.specs.Layout.{noPoint, no_row}
+use Rattle.tables.specs.Layout.{no_point, no_row}
 use Rattle.tables.specs.Mesh.{Mesh}
 
 pub record Skeleton : Type 0 where
@@ -20,7 +20,7 @@ row_in W r = get_or W r no_row
 -- the points of further midpoints, in number order, each by its parents' points (01, "One split")
 unfoldable pub extended : List Point → List Record → List Point
 extended P [] = P
-extended P (r ∷ rs) = extended (P ++ (between (get_or P r.first noPoint) (get_or P r.second noPoint) ∷ [])) rs
+extended P (r ∷ rs) = extended (P ++ (between (get_or P r.first no_point) (get_or P r.second no_point) ∷ [])) rs
 
 -- the mesh of a skeleton whose first vertices have the points P
 abbrev pub meshed : List Point → Skeleton → Mesh

@@ -1,21 +1,21 @@
 -- What salvage keeps of damaged tables (02, L13).
 use Rattle.std.specs.Prelude.{◌≡◌, List, [], ◌∷◌, ◌++◌, ℕ, suc, ◌+◌, ◌≤◌, ◌<◌}
-use Rattle.tables.specs.Layout.{mostRows, mostVertices}
+use Rattle.tables.specs.Layout.{most_rows, most_vertices}
 use Rattle.split.specs.Split.{Side}
-use Rattle.split.specs.Row.{pair, edge_of, childOf}
+use Rattle.split.specs.Row.{pair, edge_of, child_of}
 use Rattle.tables.specs.Mesh.{Mesh}
 use Rattle.forest.specs.Element.{Element, el}
-use Rattle.sound.specs.Sound.{vertices, rows, recordOf, row_of, childless, place, Afresh}
+use Rattle.sound.specs.Sound.{vertices, rows, record_of, row_of, childless, place, Afresh}
 use Rattle.sound.specs.Forest.{grown}
 
 -- "the leading initial vertices and roots intact": the leading i records and t rows that look so, and opening them afresh gives the same (02, L13 and its 22)
 pub record Intact (m : Mesh) (i t : ℕ) : Type 0 where
-  pub vertices-few : vertices m ≤ mostVertices
-  pub rows_few : rows m ≤ mostRows
-  pub vertices-in : i ≤ vertices m
+  pub vertices_few : vertices m ≤ most_vertices
+  pub rows_few : rows m ≤ most_rows
+  pub vertices_in : i ≤ vertices m
   pub rows_in : t ≤ rows m
-  pub initial : (v : ℕ) → v < i → (recordOf m v).second ≡ 4294967295
-  pub vertices-end : i < vertices m → (recordOf m i).second ≡ 4294967295 → ⊥
+  pub initial : (v : ℕ) → v < i → (record_of m v).second ≡ 4294967295
+  pub vertices_end : i < vertices m → (record_of m i).second ≡ 4294967295 → ⊥
   pub roots : (r : ℕ) → r < t → (row_of m r).parent ≡ r
   pub rows_end : t < rows m → (row_of m t).parent ≡ t → ⊥
   pub afresh : Afresh m i t
@@ -25,8 +25,8 @@ pub record FollowsAt (m : Mesh) (r v : ℕ) : Type 0 where
   pub later : r < (row_of m r).child
   pub both : (row_of m r).child + 1 < rows m
   pub there : v < vertices m
-  pub ends : pair (recordOf m v).first (recordOf m v).second ≡ edge_of (row_of m r)
-  pub is : (s : Side) → childless (row_of m (place s (row_of m r).child)) ≡ childOf s (row_of m r) r v
+  pub ends : pair (record_of m v).first (record_of m v).second ≡ edge_of (row_of m r)
+  pub is : (s : Side) → childless (row_of m (place s (row_of m r).child)) ≡ child_of s (row_of m r) r v
 
 -- with some vertex
 pub record Follows (m : Mesh) (r : ℕ) : Type 0 where

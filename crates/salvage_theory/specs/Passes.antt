@@ -4,10 +4,10 @@ use Rattle.split.specs.Split.{Side}
 use Rattle.tables.specs.Mesh.{Mesh}
 use Rattle.forest.specs.Element.{Element}
 use Rattle.sound.specs.Sound.{row_of, place}
-use Rattle.sound.specs.Forest.{elementOf}
+use Rattle.sound.specs.Forest.{element_of}
 use Rattle.run.specs.Skeleton.{Skeleton}
 use Rattle.salvage_theory.specs.Kept.{Reached, Kept}
-use Rattle.salvage_theory.specs.Rebuild.{meshFrom}
+use Rattle.salvage_theory.specs.Rebuild.{mesh_from}
 
 -- row r is reached, as some element
 pub record ReachedRow (m : Mesh) (t r : ℕ) : Type 0 where
@@ -25,7 +25,7 @@ pub record Moved (m : Mesh) (i t : ℕ) (T : Skeleton) (q k : ℕ) : Type 0 wher
   pub element : Element
   pub reached : Reached m t q element
   pub there : k < length T.rows
-  pub is : elementOf (meshFrom m i T) t k ≡ element
+  pub is : element_of (mesh_from m i T) t k ≡ element
 
 -- the second pass: a place is the new row and one, and 0 for none; roots and the children of kept rows below x have one
 pub record Placing (m : Mesh) (i t x : ℕ) (T : Skeleton) (new : ℕ → ℕ) : Type 0 where

@@ -8,14 +8,14 @@ use Rattle.tables.specs.Mesh.{Mesh}
 use Rattle.forest.specs.Element.{Element, el}
 use Rattle.forest.specs.Closed.{Forced}
 use Rattle.sound.specs.Sound.{row_of, childless, place}
-use Rattle.sound.specs.Forest.{forestOf}
+use Rattle.sound.specs.Forest.{forest_of}
 use Rattle.run.specs.Skeleton.{Skeleton, row_in, meshed}
 use Rattle.run.specs.Run.{RunAll, Within, Over, StuckAll}
 use Rattle.salvage_theory.specs.Kept.{Kept, KeptIn}
 
 -- what the rebuilt mesh splits: "the smallest closed set holding those" (02, L13)
 abbrev pub Salvaged : Mesh → ℕ → Element → Type 0
-Salvaged m t = Forced (forestOf m t) (KeptIn m t)
+Salvaged m t = Forced (forest_of m t) (KeptIn m t)
 
 -- the opened mesh: the leading records, and the roots without children
 abbrev pub opened : Mesh → ℕ → ℕ → Skeleton
@@ -26,16 +26,16 @@ abbrev pub initials : Mesh → ℕ → List Point
 initials m i = take i m.points
 
 -- a rebuilt mesh: the old points of the initial vertices, and those of midpoints by the rule
-abbrev pub meshFrom : Mesh → ℕ → Skeleton → Mesh
-meshFrom m i T = meshed (initials m i) T
+abbrev pub mesh_from : Mesh → ℕ → Skeleton → Mesh
+mesh_from m i T = meshed (initials m i) T
 
 -- the row of an element, from its root by its sides (02, L13: "named by root and sides")
-unfoldable pub findBelow : List Row → ℕ → List Side → ℕ
-findBelow W k [] = k
-findBelow W k (s ∷ p) = place s (row_in W (findBelow W k p)).child
+unfoldable pub find_below : List Row → ℕ → List Side → ℕ
+find_below W k [] = k
+find_below W k (s ∷ p) = place s (row_in W (find_below W k p)).child
 
 abbrev pub find : List Row → Element → ℕ
-find W (el k p) = findBelow W k p
+find W (el k p) = find_below W k p
 
 -- T is what the kept rows below n have made of the opened mesh, each as a call with the one mark that its element has by then (02, L13: "refined by the kept elements .. in ascending old row")
 pub data Rebuilt (m : Mesh) (i t : ℕ) : ℕ → Skeleton → Type 0 where

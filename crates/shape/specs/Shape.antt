@@ -2,10 +2,10 @@
 use Rattle.std.specs.Prelude.{◌≡◌, Bool, true, List, [], ℕ, ◌*◌, ◌≤◌, ◌<◌, length, get_or, Float}
 use Rattle.split.specs.declared.row.Row.{Row}
 use Rattle.split.specs.Split.{Side, far}
-use Rattle.split.specs.Row.{childOf, cornersOf, tag_of}
+use Rattle.split.specs.Row.{child_of, corners_of, tag_of}
 use Rattle.tables.specs.declared.layout.Counts.{Counts}
 use Rattle.tables.specs.Mesh.{Mesh, Unused}
-use Rattle.tables.specs.Layout.{recordAt, row_at, rowWidth, mostRows, mostVertices}
+use Rattle.tables.specs.Layout.{record_at, row_at, row_width, most_rows, most_vertices}
 use Rattle.sound.specs.Sound.{rows, row_of, childless, place, Child, Parent, Fitting}
 use Rattle.sound.specs.Check.{Decides, lent, bare}
 use Rattle.shape.specs.declared.answer.Shape.{Shape}
@@ -13,15 +13,15 @@ use Rattle.shape.specs.declared.answer.Shape.TheVariants.{Not, Runs}
 
 -- the rows are within their table, and the counts within the largest room
 pub record Inside (r w : List ℕ) (c : Counts) : Type 0 where
-  pub rows_fit : rowWidth * c.rows ≤ length w
-  pub few-vertices : c.vertices ≤ mostVertices
-  pub few-rows : c.rows ≤ mostRows
+  pub rows_fit : row_width * c.rows ≤ length w
+  pub few_vertices : c.vertices ≤ most_vertices
+  pub few_rows : c.rows ≤ most_rows
 
 -- i is where the leading run of initial vertices ends
 pub record Initials (r : List ℕ) (n i : ℕ) : Type 0 where
   pub within : i ≤ n
-  pub before : (v : ℕ) → v < i → (recordAt r v).second ≡ 4294967295
-  pub ends : i < n → (recordAt r i).second ≡ 4294967295 → ⊥
+  pub before : (v : ℕ) → v < i → (record_at r v).second ≡ 4294967295
+  pub ends : i < n → (record_at r i).second ≡ 4294967295 → ⊥
 
 -- t is where the leading run of roots ends
 pub record Roots (w : List ℕ) (n t : ℕ) : Type 0 where
@@ -40,19 +40,19 @@ Parents m t = (q : ℕ) → q < rows m → ((row_of m q).child ≡ 0 → ⊥) �
 pub record Sided (held : Row) (r : ℕ) (parent : Row) (p v : ℕ) : Type 0 where
   pub side : Side
   pub here : r ≡ place side parent.child
-  pub is : childless held ≡ childOf side parent p v
+  pub is : childless held ≡ child_of side parent p v
 
 -- the vertex at the parent's tag of row r
-abbrev pub middleAt : List ℕ → ℕ → ℕ
-middleAt w r = far (tag_of (row_at w (row_at w r).parent)) (cornersOf (row_at w r))
+abbrev pub middle_at : List ℕ → ℕ → ℕ
+middle_at w r = far (tag_of (row_at w (row_at w r).parent)) (corners_of (row_at w r))
 
 -- flag v is set exactly if a row from t on was made at v
 pub record Marked (w : List ℕ) (t n : ℕ) (flags : List ℕ) : Type 0 where
-  pub set : (r : ℕ) → t ≤ r → r < n → middleAt w r < length flags → get_or flags (middleAt w r) 0 ≡ 0 → ⊥
-  pub only : (v : ℕ) → (get_or flags v 0 ≡ 0 → ⊥) → (r : ℕ) × (t ≤ r) × (r < n) × (middleAt w r ≡ v)
+  pub set : (r : ℕ) → t ≤ r → r < n → middle_at w r < length flags → get_or flags (middle_at w r) 0 ≡ 0 → ⊥
+  pub only : (v : ℕ) → (get_or flags v 0 ≡ 0 → ⊥) → (r : ℕ) × (t ≤ r) × (r < n) × (middle_at w r ≡ v)
 
 abbrev pub AllUsed : List ℕ → Counts → ℕ → ℕ → Type 0
-AllUsed w c i t = (v : ℕ) → i ≤ v → v < c.vertices → (k : ℕ) × (t ≤ k) × (k < c.rows) × (middleAt w k ≡ v)
+AllUsed w c i t = (v : ℕ) → i ≤ v → v < c.vertices → (k : ℕ) × (t ≤ k) × (k < c.rows) × (middle_at w k ≡ v)
 
 -- clauses 1 and 8, and where the leading runs end
 pub record Begun (p : List Float) (r w : List ℕ) (c : Counts) (i t : ℕ) : Type 0 where
@@ -73,7 +73,7 @@ pub record Bred (r w : List ℕ) (c : Counts) (i t : ℕ) : Type 0 where
 
 -- clauses 2, 4 and 5, and each midpoint was made
 pub record Half (r w : List ℕ) (c : Counts) (i t : ℕ) : Type 0 where
-  pub midpoints : (v : ℕ) → i ≤ v → v < c.vertices → (recordAt r v).second ≡ 4294967295 → ⊥
+  pub midpoints : (v : ℕ) → i ≤ v → v < c.vertices → (record_at r v).second ≡ 4294967295 → ⊥
   pub later : (k : ℕ) → t ≤ k → k < c.rows → (row_at w k).parent ≡ k → ⊥
   pub bred : Bred r w c i t
   pub parents : Parents (bare [] w c) t

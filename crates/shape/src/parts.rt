@@ -1,13 +1,13 @@
 // Clause 2: initial vertices come first, then midpoints; roots come first, then children.
 ghost use Rattle.std.specs.Prelude.{◌≡◌, ℕ, ◌≤◌, ◌<◌};
-ghost use Rattle.tables.specs.Layout.{recordAt, row_at};
+ghost use Rattle.tables.specs.Layout.{record_at, row_at};
 ghost use Rattle.sound.specs.Check.{Decides};
 ghost use Rattle.shape.specs.Shape.{Initials, Roots};
 
 use tables::layout::INITIAL;
 
 fn is_initial(records: &[u32], v: usize) -> bool
-    ensures { Decides ((recordAt records.now v).second ≡ 4294967295) result }
+    ensures { Decides ((record_at records.now v).second ≡ 4294967295) result }
 {
     let held = tables::record::read(records, v);
     held.second == INITIAL
@@ -28,7 +28,7 @@ pub fn initials(records: &[u32], n: usize) -> usize
 }
 
 pub fn no_initial_from(records: &[u32], from: usize, n: usize) -> bool
-    ensures { Decides ((v : ℕ) → from ≤ v → v < n → (recordAt records.now v).second ≡ 4294967295 → ⊥) result }
+    ensures { Decides ((v : ℕ) → from ≤ v → v < n → (record_at records.now v).second ≡ 4294967295 → ⊥) result }
 {
     let mut v = from;
     while v < n {

@@ -1,6 +1,6 @@
 // Clause 8: unused rows are zero in every bit.
 ghost use Rattle.std.specs.Prelude.{◌≡◌, ◌&&◌, ◌-◌, ◌≤◌, length, drop, replicate};
-ghost use Rattle.tables.specs.Layout.{noFloat};
+ghost use Rattle.tables.specs.Layout.{no_float};
 ghost use Rattle.tables.specs.Mesh.{Unused};
 ghost use Rattle.sound.specs.Sound.{Fitting};
 ghost use Rattle.sound.specs.Check.{Decides, lent};
@@ -30,7 +30,7 @@ fn numbers_zero(table: &[u32], from: usize) -> bool
 
 // Plus zero and no other float: minus zero differs from it in one bit.
 fn is_zero(x: f64) -> bool
-    ensures { Decides (x ≡ noFloat) result }
+    ensures { Decides (x ≡ no_float) result }
 {
     if x != x {
         return false;
@@ -40,7 +40,7 @@ fn is_zero(x: f64) -> bool
 
 fn floats_zero(table: &[f64], from: usize) -> bool
     requires { from ≤ length table.now }
-    ensures { Decides (drop from table.now ≡ replicate (length table.now - from) noFloat) result }
+    ensures { Decides (drop from table.now ≡ replicate (length table.now - from) no_float) result }
 {
     let n = table.len();
     let mut clean = true;

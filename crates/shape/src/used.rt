@@ -1,7 +1,7 @@
 // Of clause 6: each midpoint was made by a split.
 ghost use Rattle.std.specs.Prelude.{◌≡◌, ℕ, ◌≤◌, ◌<◌, length, get_or};
 ghost use Rattle.sound.specs.Check.{Decides};
-ghost use Rattle.shape.specs.Shape.{Inside, middleAt, Bred};
+ghost use Rattle.shape.specs.Shape.{Inside, middle_at, Bred};
 
 use crate::family::children_follow;
 use chain::wide;
@@ -10,7 +10,7 @@ use tables::layout::{Counts, MOST_VERTICES};
 
 // The midpoint at which row r was made: the vertex at its parent's tag.
 pub fn middle(rows: &[u32], r: usize) -> usize
-    ensures { result ≡ middleAt rows.now r }
+    ensures { result ≡ middle_at rows.now r }
 {
     let held = tables::row::read(rows, r);
     let parent = tables::row::read(rows, wide(held.parent));

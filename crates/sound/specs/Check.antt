@@ -1,7 +1,7 @@
 -- What a check answers, and lent tables as one value.
 use Rattle.std.specs.Prelude.{◌≡◌, Bool, true, false, List, [], ℕ, Float}
 use Rattle.tables.specs.declared.layout.Counts.{Counts}
-use Rattle.tables.specs.Mesh.{Lent, Mesh, meshOf}
+use Rattle.tables.specs.Mesh.{Lent, Mesh, mesh_of}
 
 -- r says whether P holds
 pub record Decides (P : Type 0) (r : Bool) : Type 0 where
@@ -13,4 +13,4 @@ lent p r w = record { points = p; records = r; rows = w }
 
 -- the mesh without its points: enough for every clause on records and rows
 abbrev pub bare : List ℕ → List ℕ → Counts → Mesh
-bare r w c = meshOf (lent [] r w) c
+bare r w c = mesh_of (lent [] r w) c

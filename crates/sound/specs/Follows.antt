@@ -2,7 +2,7 @@
 use Rattle.std.specs.Prelude.{◌≡◌, ℕ, ◌<◌}
 use Rattle.split.specs.declared.point.Point.{Point}
 use Rattle.split.specs.Split.{far, Side}
-use Rattle.split.specs.Row.{cornersOf, tag_of}
+use Rattle.split.specs.Row.{corners_of, tag_of}
 use Rattle.split.specs.Magnitude.{Bounded}
 use Rattle.tables.specs.Mesh.{Mesh}
 use Rattle.sound.specs.Sound.{rows, row_of, place}
@@ -24,5 +24,5 @@ pub record BoundedPoint (p : Point) : Type 0 where
   pub z : Bounded p.z
 
 -- the vertex that a split row is split at; the split table puts it into the first child at the row's tag (01, "One split")
-unfoldable pub splitVertex : Mesh → ℕ → ℕ
-splitVertex m r = far (tag_of (row_of m r)) (cornersOf (row_of m (row_of m r).child))
+unfoldable pub split_vertex : Mesh → ℕ → ℕ
+split_vertex m r = far (tag_of (row_of m r)) (corners_of (row_of m (row_of m r).child))

@@ -12,9 +12,9 @@ one_answer true false d e = absurd (e.no refl (d.yes refl))
 one_answer false true d e = absurd (d.no refl (e.yes refl))
 one_answer false false d e = refl
 
-pub check-determined : (κs : _) (a : _) (r r' : _) (s s' : _) → check.Learnt κs a r s → check.Learnt κs a r' s' → r ≡ r'
-check-determined κs a r r' s s' p q = one_answer r r' p q
+pub check_determined : (κs : _) (a : _) (r r' : _) (s s' : _) → check.Learnt κs a r s → check.Learnt κs a r' s' → r ≡ r'
+check_determined κs a r r' s s' p q = one_answer r r' p q
 
 -- the lent memory is the fifth parameter
-pub check-in-determined : (κs : _) (a : _) (r r' : _) (s s' : _) → check-in.Learnt κs a r s → check-in.Learnt κs a r' s' → (r ≡ r') × (s.1.1.1.1.0.now ≡ s'.1.1.1.1.0.now)
-check-in-determined κs a r r' s s' p q = (one_answer r r' p.0 q.0, p.1 ∙ sym q.1)
+pub check_in_determined : (κs : _) (a : _) (r r' : _) (s s' : _) → check-in.Learnt κs a r s → check-in.Learnt κs a r' s' → (r ≡ r') × (s.1.1.1.1.0.now ≡ s'.1.1.1.1.0.now)
+check_in_determined κs a r r' s s' p q = (one_answer r r' p.0 q.0, p.1 ∙ sym q.1)

@@ -8,7 +8,7 @@ mod steps;
 ghost use Rattle.std.specs.Prelude.{◌≡◌, ◌≤◌, length, replicate};
 ghost use Rattle.sound.specs.Sound.{Sound};
 ghost use Rattle.sound.specs.Check.{Decides, lent};
-ghost use Rattle.soundness.specs.Check.{memoryFor, SoundIn};
+ghost use Rattle.soundness.specs.Check.{memory_for, SoundIn};
 
 use chain::clear;
 use intake::grid::CORNERS;
@@ -17,7 +17,7 @@ use tables::layout::{Counts, MOST_ROWS, MOST_VERTICES, least};
 
 // The check in memory that is enough, whatever it holds.
 fn decide(points: &[f64], records: &[u32], rows: &[u32], c: Counts, work: &mut [u32]) -> bool
-    requires { memoryFor c.rows ≤ length work.old }
+    requires { memory_for c.rows ≤ length work.old }
     ensures { Decides (Sound (lent points.now records.now rows.now) c) result }
 {
     let found = shape::shaped(points, records, rows, c);
@@ -41,7 +41,7 @@ pub fn check(points: &[f64], records: &[u32], rows: &[u32], c: Counts) -> bool
 
 // Whether so many numbers are enough memory for the check.
 fn is_enough(c: Counts, memory: usize) -> bool
-    ensures { Decides (memoryFor c.rows ≤ memory) result }
+    ensures { Decides (memory_for c.rows ≤ memory) result }
 {
     if memory < 36382 {
         return false;

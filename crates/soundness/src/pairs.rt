@@ -1,7 +1,7 @@
 // The pairs of parents, indexed by a key made of both: no pair stands twice (clause 6), and whether two vertices are a pair (clause 7). A vertex with very many others costs no more than any, since each of its pairs has a key of its own.
 ghost use Rattle.std.specs.Prelude.{◌≡◌, ◌+◌, ◌-◌, ◌≤◌, ◌<◌, length};
 ghost use Rattle.chain.specs.Chain.{Indexed, pushed};
-ghost use Rattle.tables.specs.Layout.{mostVertices};
+ghost use Rattle.tables.specs.Layout.{most_vertices};
 ghost use Rattle.sound.specs.Check.{Decides};
 ghost use Rattle.soundness.specs.Check as check;
 ghost use Rattle.soundness.specs.Check.{Fresh, Run, key_of, pair_at, Has, Untaken, Entered};
@@ -68,7 +68,7 @@ pub fn untaken(
 
 // Sets the heads to zero; what the links hold is of no account.
 pub fn clear_heads(small: bool, scratch: &mut [u32])
-    requires { check.heads small + mostVertices ≤ length scratch.old }
+    requires { check.heads small + most_vertices ≤ length scratch.old }
     ensures { Fresh small scratch.new }
 {
     let end = heads(small);

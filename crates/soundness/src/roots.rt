@@ -1,7 +1,7 @@
 // Clause 3: opening the initial vertices and roots afresh gives the same colours and, but for the first child, the same rows.
 ghost use Rattle.std.specs.Prelude.{◌+◌, ◌*◌, ◌≤◌, length};
-ghost use Rattle.tables.specs.Layout.{mostVertices};
-ghost use Rattle.tables.specs.Mesh.{meshOf};
+ghost use Rattle.tables.specs.Layout.{most_vertices};
+ghost use Rattle.tables.specs.Mesh.{mesh_of};
 ghost use Rattle.sound.specs.Sound.{Afresh, Fitting};
 ghost use Rattle.sound.specs.Check.{Decides, lent};
 
@@ -20,8 +20,8 @@ pub fn afresh(
 ) -> bool
     requires fitting { Fitting (lent points.now records.now rows.now) c }
     requires i_le_vertices { (i ≤ c.vertices) × (t ≤ c.rows) }
-    requires t_in_bounds { mostVertices + 4 * t ≤ length scratch.old }
-    ensures { Decides (Afresh (meshOf (lent points.now records.now rows.now) c) i t) result }
+    requires t_in_bounds { most_vertices + 4 * t ≤ length scratch.old }
+    ensures { Decides (Afresh (mesh_of (lent points.now records.now rows.now) c) i t) result }
 {
     let last = POINT * i;
     let used = MOST_VERTICES + CORNERS * t;

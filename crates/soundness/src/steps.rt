@@ -1,10 +1,10 @@
 // Clauses 3, 6 and 7 of tables that have the shape. The scratch table holds the index of pairs; what it holds before is of no account.
 ghost use Rattle.std.specs.Prelude.{true, ◌+◌, ◌≤◌, length};
-ghost use Rattle.tables.specs.Layout.{mostVertices};
+ghost use Rattle.tables.specs.Layout.{most_vertices};
 ghost use Rattle.sound.specs.Sound.{Sound};
 ghost use Rattle.sound.specs.Check.{Decides, lent};
 ghost use Rattle.shape.specs.Shape.{Shapely};
-ghost use Rattle.soundness.specs.Check.{Run, Rising, Pairs, heads, memoryFor};
+ghost use Rattle.soundness.specs.Check.{Run, Rising, Pairs, heads, memory_for};
 
 use crate::{conform, midpoints, pairs, roots};
 use tables::layout::Counts;
@@ -20,7 +20,7 @@ fn pairs_fit(
 ) -> bool
     requires run { Run i c.vertices }
     requires rising { Rising records.now i c.vertices }
-    requires most_vertices_in_bounds { heads small + mostVertices ≤ length scratch.old }
+    requires most_vertices_in_bounds { heads small + most_vertices ≤ length scratch.old }
     ensures { Decides (Pairs records.now rows.now c i) result }
 {
     let n = c.vertices;
@@ -35,7 +35,7 @@ fn pairs_fit(
 fn pairs_in(records: &[u32], rows: &[u32], c: Counts, i: usize, scratch: &mut [u32]) -> bool
     requires run { Run i c.vertices }
     requires rising { Rising records.now i c.vertices }
-    requires most_vertices_in_bounds { heads true + mostVertices ≤ length scratch.old }
+    requires most_vertices_in_bounds { heads true + most_vertices ≤ length scratch.old }
     ensures { Decides (Pairs records.now rows.now c i) result }
 {
     if scratch.len() < 100000 {
@@ -54,7 +54,7 @@ pub fn judge(
     scratch: &mut [u32],
 ) -> bool
     requires shapely { Shapely points.now records.now rows.now c i t }
-    requires rows_in_bounds { memoryFor c.rows ≤ length scratch.old }
+    requires rows_in_bounds { memory_for c.rows ≤ length scratch.old }
     ensures { Decides (Sound (lent points.now records.now rows.now) c) result }
 {
     if !roots::afresh(points, records, rows, c, i, t, scratch) {

@@ -9,26 +9,26 @@ use Rattle.split.proofs.row.root.Reads as root
 use Rattle.split.proofs.row.with_child.Reads as with-child
 use Rattle.split.proofs.row.same_row.Reads as same_row
 
-pub midpoint-determined : (κs : _) (a : _) (r r' : _) (s s' : _) → midpoint.Learnt κs a r s → midpoint.Learnt κs a r' s' → r ≡ r'
-midpoint-determined κs a r r' s s' p q = p ∙ sym q
+pub midpoint_determined : (κs : _) (a : _) (r r' : _) (s s' : _) → midpoint.Learnt κs a r s → midpoint.Learnt κs a r' s' → r ≡ r'
+midpoint_determined κs a r r' s s' p q = p ∙ sym q
 
-pub across-determined : (κs : _) (a : _) (r r' : _) (s s' : _) → across.Learnt κs a r s → across.Learnt κs a r' s' → r ≡ r'
-across-determined κs a r r' s s' p q = p ∙ sym q
+pub across_determined : (κs : _) (a : _) (r r' : _) (s s' : _) → across.Learnt κs a r s → across.Learnt κs a r' s' → r ≡ r'
+across_determined κs a r r' s s' p q = p ∙ sym q
 
-pub edge-determined : (κs : _) (a : _) (r r' : _) (s s' : _) → edge.Learnt κs a r s → edge.Learnt κs a r' s' → r ≡ r'
-edge-determined κs a r r' s s' p q = p ∙ sym q
+pub edge_determined : (κs : _) (a : _) (r r' : _) (s s' : _) → edge.Learnt κs a r s → edge.Learnt κs a r' s' → r ≡ r'
+edge_determined κs a r r' s s' p q = p ∙ sym q
 
-pub first-determined : (κs : _) (a : _) (r r' : _) (s s' : _) → first.Learnt κs a r s → first.Learnt κs a r' s' → r ≡ r'
-first-determined κs a r r' s s' p q = p ∙ sym q
+pub first_determined : (κs : _) (a : _) (r r' : _) (s s' : _) → first.Learnt κs a r s → first.Learnt κs a r' s' → r ≡ r'
+first_determined κs a r r' s s' p q = p ∙ sym q
 
-pub second-determined : (κs : _) (a : _) (r r' : _) (s s' : _) → second.Learnt κs a r s → second.Learnt κs a r' s' → r ≡ r'
-second-determined κs a r r' s s' p q = p ∙ sym q
+pub second_determined : (κs : _) (a : _) (r r' : _) (s s' : _) → second.Learnt κs a r s → second.Learnt κs a r' s' → r ≡ r'
+second_determined κs a r r' s s' p q = p ∙ sym q
 
-pub root-determined : (κs : _) (a : _) (r r' : _) (s s' : _) → root.Learnt κs a r s → root.Learnt κs a r' s' → r ≡ r'
-root-determined κs a r r' s s' p q = p ∙ sym q
+pub root_determined : (κs : _) (a : _) (r r' : _) (s s' : _) → root.Learnt κs a r s → root.Learnt κs a r' s' → r ≡ r'
+root_determined κs a r r' s s' p q = p ∙ sym q
 
-pub with-child-determined : (κs : _) (a : _) (r r' : _) (s s' : _) → with-child.Learnt κs a r s → with-child.Learnt κs a r' s' → r ≡ r'
-with-child-determined κs a r r' s s' p q = p ∙ sym q
+pub with_child_determined : (κs : _) (a : _) (r r' : _) (s s' : _) → with-child.Learnt κs a r s → with-child.Learnt κs a r' s' → r ≡ r'
+with_child_determined κs a r r' s s' p q = p ∙ sym q
 
-pub same-row-determined : (κs : _) (a : _) (r r' : _) (s s' : _) → same_row.Learnt κs a r s → same_row.Learnt κs a r' s' → r ≡ r'
-same-row-determined κs a r r' s s' p q = p ∙ sym q
+pub same_row_determined : (κs : _) (a : _) (r r' : _) (s s' : _) → same_row.Learnt κs a r s → same_row.Learnt κs a r' s' → r ≡ r'
+same_row_determined κs a r r' s s' p q = p ∙ sym q

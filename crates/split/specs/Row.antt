@@ -5,14 +5,14 @@ use Rattle.split.specs.declared.row.Ends.{Ends}
 use Rattle.split.specs.Split.{Tag, one, two, three, number, Corners, corners, far, first, second, Side, left, right, after}
 
 -- A tag in the tables. A number outside 1 to 3 is read as 3, so that every row has an edge and children.
-unfoldable pub readTag : ℕ → Tag
-readTag n = cond (eqb n 1) one (cond (eqb n 2) two three)
+unfoldable pub read_tag : ℕ → Tag
+read_tag n = cond (eqb n 1) one (cond (eqb n 2) two three)
 
-abbrev pub cornersOf : Row → Corners ℕ
-cornersOf r = corners r.v0 r.v1 r.v2 r.v3
+abbrev pub corners_of : Row → Corners ℕ
+corners_of r = corners r.v0 r.v1 r.v2 r.v3
 
 abbrev pub tag_of : Row → Tag
-tag_of r = readTag r.tag
+tag_of r = read_tag r.tag
 
 abbrev pub pair : ℕ → ℕ → Ends
 pair a b = record { small = a; large = b }
@@ -23,7 +23,7 @@ ends a b = pair (min a b) (max a b)
 
 -- the refinement edge (01, "One split")
 unfoldable pub edge_of : Row → Ends
-edge_of r = ends r.v0 (far (tag_of r) (cornersOf r))
+edge_of r = ends r.v0 (far (tag_of r) (corners_of r))
 
 -- one more than the parent's depth; the largest u32 stays as it is
 unfoldable pub deeper : ℕ → ℕ
@@ -51,28 +51,28 @@ abbrev pub remade : Row → Corners ℕ → ℕ → ℕ → Row
 remade r c parent child = record { v0 = c.v0; v1 = c.v1; v2 = c.v2; v3 = c.v3; tag = r.tag; parent = parent; child = child; depth = r.depth }
 
 -- the row with its first child (01, "The tables")
-abbrev pub withChild : Row → ℕ → Row
-withChild r c = remade r (cornersOf r) r.parent c
+abbrev pub with_child : Row → ℕ → Row
+with_child r c = remade r (corners_of r) r.parent c
 
 -- a row but for its first child (01, "Sound tables")
 abbrev pub childless : Row → Row
-childless r = withChild r 0
+childless r = with_child r 0
 
 -- the same four vertices
-unfoldable pub sameCorners : Corners ℕ → Corners ℕ → Bool
-sameCorners c d = eqb c.v0 d.v0 && (eqb c.v1 d.v1 && (eqb c.v2 d.v2 && eqb c.v3 d.v3))
+unfoldable pub same_corners : Corners ℕ → Corners ℕ → Bool
+same_corners c d = eqb c.v0 d.v0 && (eqb c.v1 d.v1 && (eqb c.v2 d.v2 && eqb c.v3 d.v3))
 
--- two rows are the same but for the first child (01, "Sound tables"; the laws `row_same` and `same_row` say it of `childless`)
-unfoldable pub sameRow : Row → Row → Bool
-sameRow a b = sameCorners (cornersOf a) (cornersOf b) && (eqb a.tag b.tag && (eqb a.parent b.parent && eqb a.depth b.depth))
+-- two rows are the same but for the first child (01, "Sound tables"; the laws `row_same` and `same_row_lem` say it of `childless`)
+unfoldable pub same_row : Row → Row → Bool
+same_row a b = same_corners (corners_of a) (corners_of b) && (eqb a.tag b.tag && (eqb a.parent b.parent && eqb a.depth b.depth))
 
 -- the two children of the row r, whose own number is `own`, at the midpoint m (01, "One split")
 unfoldable pub first_of : Row → ℕ → ℕ → Row
-first_of r own m = below r own (first (tag_of r) (cornersOf r) m)
+first_of r own m = below r own (first (tag_of r) (corners_of r) m)
 
 unfoldable pub second_of : Row → ℕ → ℕ → Row
-second_of r own m = below r own (second (tag_of r) (cornersOf r) m)
+second_of r own m = below r own (second (tag_of r) (corners_of r) m)
 
-abbrev pub childOf : Side → Row → ℕ → ℕ → Row
-childOf left = first_of
-childOf right = second_of
+abbrev pub child_of : Side → Row → ℕ → ℕ → Row
+child_of left = first_of
+child_of right = second_of

@@ -3,7 +3,7 @@
 ghost use Rattle.std.specs.Prelude.{◌≡◌, cond, ◌-◌, leb};
 ghost use Rattle.split.specs.Split.{number, corners, far, by_tag};
 ghost use Rattle.split.specs.Row as row;
-ghost use Rattle.split.specs.Row.{cornersOf, readTag, tag_of, edge_of, below, withChild, sameCorners, sameRow, deeper, first_of, second_of};
+ghost use Rattle.split.specs.Row.{corners_of, read_tag, tag_of, edge_of, below, with_child, same_corners, same_row, deeper, first_of, second_of};
 
 // The tag of a root, which is the largest: the dimension.
 const TOP: u32 = 3;
@@ -29,7 +29,7 @@ pub struct Ends {
 
 // The vertex at the place of a tag, which may be another row's.
 pub fn across(tag: u32, r: Row) -> u32
-    ensures { result ≡ far (readTag tag) (cornersOf r) }
+    ensures { result ≡ far (read_tag tag) (corners_of r) }
 {
     if tag == 1 {
         return r.v1;
@@ -148,7 +148,7 @@ pub fn root(tag: u32, own: u32, v0: u32, v1: u32, v2: u32, v3: u32) -> Row
 }
 
 pub fn with_child(r: Row, child: u32) -> Row
-    ensures { result ≡ withChild r child }
+    ensures { result ≡ with_child r child }
 {
     let mut p = r;
     p.child = child;
@@ -156,7 +156,7 @@ pub fn with_child(r: Row, child: u32) -> Row
 }
 
 fn same_corners(a: Row, b: Row) -> bool
-    ensures { result ≡ sameCorners (cornersOf a) (cornersOf b) }
+    ensures { result ≡ same_corners (corners_of a) (corners_of b) }
 {
     if a.v0 != b.v0 {
         return false;
@@ -172,7 +172,7 @@ fn same_corners(a: Row, b: Row) -> bool
 
 // Whether two rows are the same but for the first child.
 pub fn same_row(a: Row, b: Row) -> bool
-    ensures { result ≡ sameRow a b }
+    ensures { result ≡ same_row a b }
 {
     if !same_corners(a, b) {
         return false;

@@ -4,7 +4,7 @@ use Rattle.split.specs.declared.row.Row.{Row}
 use Rattle.split.specs.declared.point.Point.{Point}
 use Rattle.tables.specs.declared.layout.Counts.{Counts}
 use Rattle.tables.specs.declared.record.Record.{Record}
-use Rattle.tables.specs.Layout.{pointWidth, recordWidth, rowWidth, pointCells, recordCells, rowCells, pointAt, recordAt, row_at, noFloat}
+use Rattle.tables.specs.Layout.{point_width, record_width, row_width, point_cells, record_cells, row_cells, point_at, record_at, row_at, no_float}
 
 -- the three lent tables, whole
 pub record Lent : Type 0 where
@@ -33,8 +33,8 @@ abbrev pub padded : {A : Type 0} → ℕ → A → List A → List A
 padded n z l = l ++ replicate (n - length l) z
 
 -- the first counts of each table
-unfoldable pub meshOf : Lent → Counts → Mesh
-meshOf t c = record { points = up_to (pointAt t.points) c.vertices; records = up_to (recordAt t.records) c.vertices; rows = up_to (row_at t.rows) c.rows }
+unfoldable pub mesh_of : Lent → Counts → Mesh
+mesh_of t c = record { points = up_to (point_at t.points) c.vertices; records = up_to (record_at t.records) c.vertices; rows = up_to (row_at t.rows) c.rows }
 
 -- the counts are those of the mesh: as many vertices and rows as it has (01, "The tables")
 pub record Counting (m : Mesh) (c : Counts) : Type 0 where
@@ -44,16 +44,16 @@ pub record Counting (m : Mesh) (c : Counts) : Type 0 where
 -- tables of the given lengths that hold the mesh and zeros after it
 unfoldable pub laid : Mesh → ℕ → ℕ → ℕ → Lent
 laid m points records rows = record {
-  points = padded points noFloat (flat pointCells m.points);
-  records = padded records 0 (flat recordCells m.records);
-  rows = padded rows 0 (flat rowCells m.rows);
+  points = padded points no_float (flat point_cells m.points);
+  records = padded records 0 (flat record_cells m.records);
+  rows = padded rows 0 (flat row_cells m.rows);
 }
 
 -- the counts are within the tables, and everything past them is zero in every bit (01, "The tables")
 pub record Unused (t : Lent) (c : Counts) : Type 0 where
-  pub points-fit : pointWidth * c.vertices ≤ length t.points
-  pub records-fit : recordWidth * c.vertices ≤ length t.records
-  pub rows_fit : rowWidth * c.rows ≤ length t.rows
-  pub points : drop (pointWidth * c.vertices) t.points ≡ replicate (length t.points - pointWidth * c.vertices) noFloat
-  pub records : drop (recordWidth * c.vertices) t.records ≡ replicate (length t.records - recordWidth * c.vertices) 0
-  pub rows : drop (rowWidth * c.rows) t.rows ≡ replicate (length t.rows - rowWidth * c.rows) 0
+  pub points_fit : point_width * c.vertices ≤ length t.points
+  pub records_fit : record_width * c.vertices ≤ length t.records
+  pub rows_fit : row_width * c.rows ≤ length t.rows
+  pub points : drop (point_width * c.vertices) t.points ≡ replicate (length t.points - point_width * c.vertices) no_float
+  pub records : drop (record_width * c.vertices) t.records ≡ replicate (length t.records - record_width * c.vertices) 0
+  pub rows : drop (row_width * c.rows) t.rows ≡ replicate (length t.rows - row_width * c.rows) 0

@@ -1,7 +1,7 @@
 -- What a call comes back with, as the numbers of document 01; each answer enum has one definition that gives them.
 use Rattle.std.specs.Prelude.{ℕ}
 use Rattle.tables.specs.declared.layout.Counts.{Counts}
-use Rattle.tables.specs.Layout.{noCounts}
+use Rattle.tables.specs.Layout.{no_counts}
 
 -- what opening and refining come back with (01, "What comes back")
 pub record Report : Type 0 where
@@ -12,7 +12,7 @@ pub record Report : Type 0 where
 
 -- its number and place, zero counts and zero splits (01, "What comes back")
 abbrev pub refusal : ℕ → ℕ → Report
-refusal number place = record { number = number; place = place; counts = noCounts; splits = 0 }
+refusal number place = record { number = number; place = place; counts = no_counts; splits = 0 }
 
 -- number 0, place 0, the counts and the splits (01, "What comes back", its row for done)
 abbrev pub done : Counts → ℕ → Report

@@ -1,7 +1,7 @@
 // The widths of the three tables, named once, the room that lent tables give, and the counts of what they hold.
 
 ghost use Rattle.std.specs.Prelude.{◌≡◌, min};
-ghost use Rattle.tables.specs.Layout.{roomOf, started, resized};
+ghost use Rattle.tables.specs.Layout.{room_of, started, resized};
 
 // Numbers that a vertex takes in the coordinate table and in the vertex table, and that an element takes.
 pub const POINT: usize = 3;
@@ -57,7 +57,7 @@ pub fn least(a: usize, b: usize) -> usize
 
 // The room of tables of these lengths.
 pub fn room(points: usize, records: usize, rows: usize) -> Size
-    ensures { result ≡ roomOf points records rows }
+    ensures { result ≡ room_of points records rows }
 {
     let held = least(points / POINT, records / RECORD);
     Size {

@@ -1,13 +1,13 @@
 // One point of the coordinate table, gathered into a struct and stored from it.
 ghost use Rattle.std.specs.Prelude.{◌≡◌};
-ghost use Rattle.tables.specs.Layout.{pointAt, putPoint};
+ghost use Rattle.tables.specs.Layout.{point_at, put_point};
 
 use crate::layout::POINT;
 use split::point::Point;
 
 // Point k, or zeros where the table has no point k.
 pub fn read(table: &[f64], k: usize) -> Point
-    ensures { result ≡ pointAt table.now k }
+    ensures { result ≡ point_at table.now k }
 {
     if k < table.len() / POINT {
         let i = POINT * k;
@@ -26,7 +26,7 @@ pub fn read(table: &[f64], k: usize) -> Point
 
 // Stores point k; nothing changes where the table has no point k.
 pub fn write(table: &mut [f64], k: usize, p: Point)
-    ensures { table.new ≡ putPoint table.old k p }
+    ensures { table.new ≡ put_point table.old k p }
 {
     if k < table.len() / POINT {
         let i = POINT * k;

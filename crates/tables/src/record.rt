@@ -1,6 +1,6 @@
 // One vertex of the vertex table, by value: a colour and `INITIAL`, or two parents.
 ghost use Rattle.std.specs.Prelude.{◌≡◌};
-ghost use Rattle.tables.specs.Layout.{recordAt, putRecord};
+ghost use Rattle.tables.specs.Layout.{record_at, put_record};
 
 use crate::layout::RECORD;
 
@@ -12,7 +12,7 @@ pub struct Record {
 
 // Vertex k, or zeros where the table has no vertex k.
 pub fn read(table: &[u32], k: usize) -> Record
-    ensures { result ≡ recordAt table.now k }
+    ensures { result ≡ record_at table.now k }
 {
     if k < table.len() / RECORD {
         let i = RECORD * k;
@@ -29,7 +29,7 @@ pub fn read(table: &[u32], k: usize) -> Record
 
 // Stores vertex k; nothing changes where the table has no vertex k.
 pub fn write(table: &mut [u32], k: usize, r: Record)
-    ensures { table.new ≡ putRecord table.old k r }
+    ensures { table.new ≡ put_record table.old k r }
 {
     if k < table.len() / RECORD {
         let i = RECORD * k;

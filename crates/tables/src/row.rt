@@ -1,6 +1,6 @@
 // One row of the element table, by value.
 ghost use Rattle.std.specs.Prelude.{◌≡◌};
-ghost use Rattle.tables.specs.Layout.{no_row, row_at, putRow};
+ghost use Rattle.tables.specs.Layout.{no_row, row_at, put_row};
 
 use crate::layout::ROW;
 use split::row::Row;
@@ -43,7 +43,7 @@ pub fn read(table: &[u32], k: usize) -> Row
 
 // Stores row k; nothing changes where the table has no row k.
 pub fn write(table: &mut [u32], k: usize, r: Row)
-    ensures { table.new ≡ putRow table.old k r }
+    ensures { table.new ≡ put_row table.old k r }
 {
     if k < table.len() / ROW {
         let i = ROW * k;

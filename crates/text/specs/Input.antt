@@ -45,11 +45,11 @@ pub data Reading : Type 0 where
   refused : ℕ → ℕ → Reading
 
 -- from line k on; what follows the last line feed is a line that is not well formed, unless it is nothing
-unfoldable pub readFrom : Input → ℕ → List (List ℕ) → Reading
-readFrom i k [] = all i
-readFrom i k (p ∷ []) = cond (eqb (length p) 0) (all i) (refused (reported (line.Refused k)).number (reported (line.Refused k)).place)
-readFrom i k (p ∷ q ∷ ps) = elim (takes i (line_of p k)) [ taken j ↦ readFrom j (suc k) (q ∷ ps) | fault n ↦ refused n k ]
+unfoldable pub read_from : Input → ℕ → List (List ℕ) → Reading
+read_from i k [] = all i
+read_from i k (p ∷ []) = cond (eqb (length p) 0) (all i) (refused (reported (line.Refused k)).number (reported (line.Refused k)).place)
+read_from i k (p ∷ q ∷ ps) = elim (takes i (line_of p k)) [ taken j ↦ read_from j (suc k) (q ∷ ps) | fault n ↦ refused n k ]
 
 -- each line is ended by a line feed
 abbrev pub read_all : List ℕ → Reading
-read_all l = readFrom nothing 1 (parts 10 l)
+read_all l = read_from nothing 1 (parts 10 l)

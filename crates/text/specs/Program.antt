@@ -3,60 +3,60 @@ use Rattle.std.specs.Prelude.{◌≡◌, cond, List, ◌++◌, map, ℕ, ◌/◌
 use Rattle.std.proofs.lemmas.List.Edits.{sets}
 use Rattle.tables.specs.declared.layout.Counts.{Counts}
 use Rattle.tables.specs.Layout.{row_at}
-use Rattle.tables.specs.Mesh.{Lent, meshOf, laid}
+use Rattle.tables.specs.Mesh.{Lent, mesh_of, laid}
 use Rattle.tables.specs.Report.{Report, refusal}
 use Rattle.forest.specs.Shallow as forest
 use Rattle.intake.specs.Cells.{quads}
 use Rattle.opening.specs.declared.answer.Opened.{Opened}
 use Rattle.opening.specs.declared.answer.Opened.TheVariants as opened
 use Rattle.opening.specs.Opening as opening
-use Rattle.sound.specs.Forest.{elementOf}
+use Rattle.sound.specs.Forest.{element_of}
 use Rattle.closure.specs.declared.answer.Refined.{Refined}
 use Rattle.closure.specs.declared.answer.Refined.TheVariants as refined
 use Rattle.closure.specs.Refine as closure
-use Rattle.leaves.specs.Listing.{levelIn, listing}
+use Rattle.leaves.specs.Listing.{level_in, listing}
 use Rattle.text.specs.Input.{Input, Reading, all, refused, read_all}
-use Rattle.text.specs.Output.{cLine, lLine, pLines, lLines, texts}
+use Rattle.text.specs.Output.{c_line, l_line, p_lines, l_lines, texts}
 
 -- C, number, vertices, rows, splits; if refused C, number, place, 0, 0
 unfoldable pub headline : Report → List ℕ
-headline r = cond (eqb r.number 0) (cLine 0 r.counts.vertices r.counts.rows r.splits) (cLine r.number r.place 0 0)
+headline r = cond (eqb r.number 0) (c_line 0 r.counts.vertices r.counts.rows r.splits) (c_line r.number r.place 0 0)
 
 -- L lines of all leaves, in the order of the listing
-unfoldable pub leafLines : Lent → Counts → List ℕ
-leafLines t c = let W = (meshOf t c).rows in lLines t.rows (listing W) (map (levelIn W) (listing W)) (length (listing W))
+unfoldable pub leaf_lines : Lent → Counts → List ℕ
+leaf_lines t c = let W = (mesh_of t c).rows in l_lines t.rows (listing W) (map (level_in W) (listing W)) (length (listing W))
 
 -- the L line of row k with the root of its element, in the forest of the first `roots` rows
-abbrev pub rootedLine : Lent → Counts → ℕ → ℕ → List ℕ
-rootedLine t c roots k = lLine k (forest.rootOf (elementOf (meshOf t c) roots k)) (levelIn (meshOf t c).rows k) (row_at t.rows k)
+abbrev pub rooted_line : Lent → Counts → ℕ → ℕ → List ℕ
+rooted_line t c roots k = l_line k (forest.root_of (element_of (mesh_of t c) roots k)) (level_in (mesh_of t c).rows k) (row_at t.rows k)
 
 -- the same of all leaves: the law on the printed roots speaks of it, and nothing is promised with it
-unfoldable pub rootedLines : Lent → Counts → ℕ → List ℕ
-rootedLines t c roots = let L = listing (meshOf t c).rows in texts (λ j. rootedLine t c roots (get_or L j 0)) (length L)
+unfoldable pub rooted_lines : Lent → Counts → ℕ → List ℕ
+rooted_lines t c roots = let L = listing (mesh_of t c).rows in texts (λ j. rooted_line t c roots (get_or L j 0)) (length L)
 
 -- what is printed of refining a mesh of the given number of initial vertices: where it refused, the C line alone
-unfoldable pub refinedText : ℕ → Refined → Lent → List ℕ
-refinedText initial (refined.Refused n p) t = headline (closure.reported (refined.Refused n p))
-refinedText initial (refined.Done c splits) t = headline (closure.reported (refined.Done c splits)) ++ pLines t.points t.records initial c.vertices ++ leafLines t c
+unfoldable pub refined_text : ℕ → Refined → Lent → List ℕ
+refined_text initial (refined.Refused n p) t = headline (closure.reported (refined.Refused n p))
+refined_text initial (refined.Done c splits) t = headline (closure.reported (refined.Done c splits)) ++ p_lines t.points t.records initial c.vertices ++ leaf_lines t c
 
 -- the text is that of refining once
 pub record Refining (t : Lent) (c : Counts) (marks text : List ℕ) : Type 0 where
   pub answer : Refined
   pub after : Lent
   pub refines : closure.Refines t c marks answer after
-  pub prints : text ≡ refinedText c.vertices answer after
+  pub prints : text ≡ refined_text c.vertices answer after
 
 -- tables of 512 vertices and 768 rows
 unfoldable pub opens : Input → Opened
 opens i = opening.answer (opening.judged i.coordinates i.elements 1536 1024 6144) (length i.coordinates / 3) (length i.elements / 4)
 
-unfoldable pub openedTables : Input → Lent
-openedTables i = laid (opening.openedMesh i.coordinates (quads i.elements)) 1536 1024 6144
+unfoldable pub opened_tables : Input → Lent
+opened_tables i = laid (opening.opened_mesh i.coordinates (quads i.elements)) 1536 1024 6144
 
 -- the text is that of the opened mesh; where opening refused, the C line alone
 abbrev pub Outcome : Opened → Input → List ℕ → Type 0
 Outcome (opened.Refused n p) i text = text ≡ headline (opening.reported (opened.Refused n p))
-Outcome (opened.Done c) i text = Refining (openedTables i) c i.marks text
+Outcome (opened.Done c) i text = Refining (opened_tables i) c i.marks text
 
 -- all lines are read before opening starts; where one is bad, the C line alone
 abbrev pub Answer : Reading → List ℕ → Type 0

@@ -15,5 +15,5 @@ pub record Puts (w : ℕ) (out : List ℕ) (at : ℕ) (text out' : List ℕ) (e 
 pub record Spells (base short places at : ℕ) : Type 0 where
   pub some : 0 < base
   pub low : base ≤ 16
-  pub short-low : short ≤ 16
+  pub short_low : short ≤ 16
   pub room : Room places at

@@ -10,7 +10,7 @@ use Rattle.text.specs.declared.input.Turn.TheVariants as turn
 use Rattle.text.specs.declared.input.Read.{Read}
 use Rattle.text.specs.declared.input.Read.TheVariants as read
 use Rattle.fields.specs.Field.{parts}
-use Rattle.text.specs.Input.{Input, input, Taken, taken, fault, takes, all, refused, readFrom, read_all}
+use Rattle.text.specs.Input.{Input, input, Taken, taken, fault, takes, all, refused, read_from, read_all}
 
 -- what the filled parts of the lists hold
 abbrev pub input_of : List Float → List ℕ → List ℕ → Used → Input
@@ -49,8 +49,8 @@ pub record Ready (at : ℕ) (l : List ℕ) (u : Used) (c : List Float) (e m : Li
 
 -- line k, which starts at `at`, after the lines of i
 pub record Turns (l : List ℕ) (at k : ℕ) (i : Input) (t : Turn) (c : List Float) (e m : List ℕ) : Type 0 where
-  pub next : (a : ℕ) (u : Used) → t ≡ turn.Next a u → (at < a) × (a ≤ length l) × Fits u × (readFrom i k (parts 10 (drop at l)) ≡ readFrom (input_of c e m u) (suc k) (parts 10 (drop a l)))
-  pub faults : (n : ℕ) → t ≡ turn.Fault n → readFrom i k (parts 10 (drop at l)) ≡ refused n k
+  pub next : (a : ℕ) (u : Used) → t ≡ turn.Next a u → (at < a) × (a ≤ length l) × Fits u × (read_from i k (parts 10 (drop at l)) ≡ read_from (input_of c e m u) (suc k) (parts 10 (drop a l)))
+  pub faults : (n : ℕ) → t ≡ turn.Fault n → read_from i k (parts 10 (drop at l)) ≡ refused n k
   pub sized : Sized c e m
 
 pub record Reads (l : List ℕ) (r : Read) (c : List Float) (e m : List ℕ) : Type 0 where

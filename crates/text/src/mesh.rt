@@ -3,7 +3,7 @@ ghost use Rattle.tables.specs.Report.{done, refusal};
 ghost use Rattle.sound.specs.Check.{lent};
 ghost use Rattle.closure.specs.declared.answer.Refined.TheVariants.{Done};
 ghost use Rattle.text.specs.Putting.{Puts};
-ghost use Rattle.text.specs.Program.{headline, leafLines, refinedText};
+ghost use Rattle.text.specs.Program.{headline, leaf_lines, refined_text};
 ghost use Rattle.text.specs.Working.{Held, Listable, Printable, Finishes};
 
 use crate::SIZE;
@@ -38,7 +38,7 @@ fn print_listed(
     c: Counts,
 ) -> usize
     requires { Listable (lent points.now records.now rows.now) c at }
-    ensures { Puts 146688 out.old at (leafLines (lent points.now records.now rows.now) c) out.new result }
+    ensures { Puts 146688 out.old at (leaf_lines (lent points.now records.now rows.now) c) out.new result }
 {
     let mut list = [0u32; 768];
     let mut levels = [0u32; 768];
@@ -62,7 +62,7 @@ fn print_mesh(
     initial: usize,
 ) -> usize
     requires { Printable (lent points.now records.now rows.now) c initial }
-    ensures { Puts 262144 out.old 0 (refinedText initial (Done c splits) (lent points.now records.now rows.now)) out.new result }
+    ensures { Puts 262144 out.old 0 (refined_text initial (Done c splits) (lent points.now records.now rows.now)) out.new result }
 {
     let at = head(out, c, splits);
     let next = print_midpoints(out, at, points, records, initial, c.vertices);

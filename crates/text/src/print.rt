@@ -1,7 +1,7 @@
 // The printed lines: C, P and L.
 ghost use Rattle.std.specs.Prelude.{◌≡◌, ◌*◌, ◌-◌};
-ghost use Rattle.tables.specs.Layout.{pointAt, recordAt, row_at};
-ghost use Rattle.text.specs.Output.{cLine, pLine, lLine, leafLine, pLines, lLines, rootOf};
+ghost use Rattle.tables.specs.Layout.{point_at, record_at, row_at};
+ghost use Rattle.text.specs.Output.{c_line, p_line, l_line, leaf_line, p_lines, l_lines, root_of};
 ghost use Rattle.text.specs.Putting.{Room, Puts};
 ghost use Rattle.text.specs.Printing.{PrintsMidpoints, PrintsLeaf, PrintsLeaves};
 
@@ -29,7 +29,7 @@ fn index(x: u32) -> usize
 
 pub fn print_c(out: &mut [u8; SIZE], at: usize, a: u64, b: u64, c: u64, d: u64) -> usize
     requires { Room 86 at }
-    ensures { Puts 86 out.old at (cLine a b c d) out.new result }
+    ensures { Puts 86 out.old at (c_line a b c d) out.new result }
 {
     let first = put(out, at, b'C');
     let last = put_four(out, first, a, b, c, d);
@@ -39,7 +39,7 @@ pub fn print_c(out: &mut [u8; SIZE], at: usize, a: u64, b: u64, c: u64, d: u64) 
 // The P line of vertex v.
 fn print_p(out: &mut [u8; SIZE], at: usize, points: &[f64], records: &[u32], v: usize) -> usize
     requires { Room 116 at }
-    ensures { Puts 116 out.old at (pLine v (recordAt records.now v) (pointAt points.now v)) out.new result }
+    ensures { Puts 116 out.old at (p_line v (record_at records.now v) (point_at points.now v)) out.new result }
 {
     let parents = tables::record::read(records, v);
     let place = tables::point::read(points, v);
@@ -57,7 +57,7 @@ fn print_p(out: &mut [u8; SIZE], at: usize, points: &[f64], records: &[u32], v: 
 
 // The row that is its own parent, over row k.
 fn root(rows: &[u32], k: usize) -> usize
-    ensures { result ≡ rootOf rows.now k }
+    ensures { result ≡ root_of rows.now k }
 {
     let mut at = k;
     let mut i = 0usize;
@@ -83,7 +83,7 @@ fn print_row(
     level: u32,
 ) -> usize
     requires { Room 191 at }
-    ensures { Puts 191 out.old at (lLine k root level (row_at rows.now k)) out.new result }
+    ensures { Puts 191 out.old at (l_line k root level (row_at rows.now k)) out.new result }
 {
     let r = tables::row::read(rows, k);
     let first = put(out, at, b'L');
@@ -103,7 +103,7 @@ pub fn print_midpoints(
     to: usize,
 ) -> usize
     requires { PrintsMidpoints from to at }
-    ensures { Puts (116 * (to - from)) out.old at (pLines points.now records.now from to) out.new result }
+    ensures { Puts (116 * (to - from)) out.old at (p_lines points.now records.now from to) out.new result }
 {
     let mut end = at;
     let mut v = from;
@@ -124,7 +124,7 @@ fn print_leaf(
     j: usize,
 ) -> usize
     requires { PrintsLeaf j list.now levels.now at }
-    ensures { Puts 191 out.old at (leafLine rows.now list.now levels.now j) out.new result }
+    ensures { Puts 191 out.old at (leaf_line rows.now list.now levels.now j) out.new result }
 {
     let k = index(list[j]);
     let over = root(rows, k);
@@ -141,7 +141,7 @@ pub fn print_leaves(
     n: usize,
 ) -> usize
     requires { PrintsLeaves n list.now levels.now at }
-    ensures { Puts (191 * n) out.old at (lLines rows.now list.now levels.now n) out.new result }
+    ensures { Puts (191 * n) out.old at (l_lines rows.now list.now levels.now n) out.new result }
 {
     let mut end = at;
     let mut j = 0usize;

@@ -3,7 +3,7 @@ use Prim.Native.Nat.{◌-◌}
 use native.Mathlib.Omega.{arith}
 use lib.ListN.{length}
 use borrow.Author.Rules.{rules}
-use Rattle.chain.proofs.laws.Clearing.{Cleared, clear-start, clear_next, clear-end}
+use Rattle.chain.proofs.laws.Clearing.{Cleared, clear_start, clear_next, clear_end}
 use Rattle.chain.proofs.clear.Statement.{statement}
 use Rattle.chain.proofs.clear.Tie as tie
 
@@ -14,7 +14,7 @@ abbrev decreases-loop : tie.decreases-loop
 decreases-loop table₀ end i₀ table i = end - i
 
 loop-holds : tie.Need-loop-init invariant-loop decreases-loop
-loop-holds c = clear-start _
+loop-holds c = clear_start _
 
 mul-table : tie.Need-overflow-mul-table invariant-loop decreases-loop
 mul-table c = search rules
@@ -32,10 +32,10 @@ loop-again : tie.Need-loop-preserved invariant-loop decreases-loop
 loop-again c = clear_next c.before.loop.invariant (search rules)
 
 same_length : tie.Need-same-length invariant-loop decreases-loop
-same_length c = c.before.loop.invariant.length-is
+same_length c = c.before.loop.invariant.length_is
 
 returns : tie.Need-returns invariant-loop decreases-loop
-returns c = clear-end c.before.loop.invariant (omega arith)
+returns c = clear_end c.before.loop.invariant (omega arith)
 
 pub clear_spec : {M : Type 1} → statement M
 clear_spec =

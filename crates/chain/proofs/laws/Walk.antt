@@ -8,45 +8,45 @@ use Rattle.chain.specs.Chain.{latest}
 
 module _ (key : ℕ → ℕ) (v : ℕ) where
   -- one place more: it has the key, or it has not
-  pub latest-hit : (i : ℕ) → key i ≡ v → latest key v (suc i) ≡ suc i
+  pub latest_hit : (i : ℕ) → key i ≡ v → latest key v (suc i) ≡ suc i
   unfolding latest
-  latest-hit i e = rw (eq-eqb (key i) v e)
+  latest_hit i e = rw (eq-eqb (key i) v e)
 
-  pub latest-miss : (i : ℕ) → (key i ≡ v → ⊥) → latest key v (suc i) ≡ latest key v i
+  pub latest_miss : (i : ℕ) → (key i ≡ v → ⊥) → latest key v (suc i) ≡ latest key v i
   unfolding latest
-  latest-miss i d = rw (ne_eqb (key i) v d)
+  latest_miss i d = rw (ne_eqb (key i) v d)
 
-  pub latest-below : (n : ℕ) → latest key v n ≤ n
+  pub latest_below : (n : ℕ) → latest key v n ≤ n
   unfolding latest
-  latest-below zero = omega arith
-  latest-below (suc n) = go (latest-below n) (ℕ_discrete (key n) v)
+  latest_below zero = omega arith
+  latest_below (suc n) = go (latest_below n) (ℕ_discrete (key n) v)
     where
       go : latest key v n ≤ n → Dec (key n ≡ v) → latest key v (suc n) ≤ suc n
-      go h (yes e) = omega (arith, latest-hit n e)
-      go h (no d) = omega (arith, latest-miss n d)
+      go h (yes e) = omega (arith, latest_hit n e)
+      go h (no d) = omega (arith, latest_miss n d)
 
   -- a walk that is at i + 1 is at place i, which has the key
-  pub latest-some : (n i : ℕ) → latest key v n ≡ suc i → (i < n) × (key i ≡ v)
-  latest-some zero i s = absurd (omega (arith, latest-below 0))
-  latest-some (suc n) i s = go (latest-some n i) (ℕ_discrete (key n) v)
+  pub latest_some : (n i : ℕ) → latest key v n ≡ suc i → (i < n) × (key i ≡ v)
+  latest_some zero i s = absurd (omega (arith, latest_below 0))
+  latest_some (suc n) i s = go (latest_some n i) (ℕ_discrete (key n) v)
     where
       go : (latest key v n ≡ suc i → (i < n) × (key i ≡ v)) → Dec (key n ≡ v) → (i < suc n) × (key i ≡ v)
-      go f (yes e) = let q : n ≡ i = omega (arith, latest-hit n e) in (omega arith, rw q at e)
-      go f (no d) = let t : (i < n) × (key i ≡ v) = f (sym (latest-miss n d) ∙ s) in (omega arith, t.1)
+      go f (yes e) = let q : n ≡ i = omega (arith, latest_hit n e) in (omega arith, rw q at e)
+      go f (no d) = let t : (i < n) × (key i ≡ v) = f (sym (latest_miss n d) ∙ s) in (omega arith, t.1)
 
 -- between n and the last place before it with the key there is none; where the walk is at 0, none is left
-pub latest-between : (key : ℕ → ℕ) (v n i : ℕ) → latest key v n ≤ i → i < n → key i ≡ v → ⊥
-latest-between key v zero i l h e = omega arith
-latest-between key v (suc n) i l h e = go (ℕ_discrete (key n) v) (ℕ_discrete i n) (latest-between key v n i)
+pub latest_between : (key : ℕ → ℕ) (v n i : ℕ) → latest key v n ≤ i → i < n → key i ≡ v → ⊥
+latest_between key v zero i l h e = omega arith
+latest_between key v (suc n) i l h e = go (ℕ_discrete (key n) v) (ℕ_discrete i n) (latest_between key v n i)
   where
     go : Dec (key n ≡ v) → Dec (i ≡ n) → (latest key v n ≤ i → i < n → key i ≡ v → ⊥) → ⊥
-    go (yes k) q f = omega (arith, latest-hit key v n k)
+    go (yes k) q f = omega (arith, latest_hit key v n k)
     go (no k) (yes q) f = k (rw q at e)
-    go (no k) (no q) f = f (omega (arith, latest-miss key v n k)) (omega arith) e
+    go (no k) (no q) f = f (omega (arith, latest_miss key v n k)) (omega arith) e
 
 -- only the keys below n matter
 module _ (key key' : ℕ → ℕ) (v : ℕ) where
-  pub latest-same : (n : ℕ) → ((i : ℕ) → i < n → key i ≡ key' i) → latest key v n ≡ latest key' v n
+  pub latest_same : (n : ℕ) → ((i : ℕ) → i < n → key i ≡ key' i) → latest key v n ≡ latest key' v n
   unfolding latest
-  latest-same zero s = refl
-  latest-same (suc n) s = rw (s n (omega arith), latest-same n (λ i h. s i (omega arith)))
+  latest_same zero s = refl
+  latest_same (suc n) s = rw (s n (omega arith), latest_same n (λ i h. s i (omega arith)))

@@ -2,24 +2,24 @@
 use mathlib.Core.Path.{sym}
 use borrow.Author.Rules.{rules}
 use lib.ListN.{length-set}
-use Rattle.chain.proofs.laws.Pushed.{pushed-keyless, pushed-roomless, pushed-late, pushed-stored}
+use Rattle.chain.proofs.laws.Pushed.{pushed_keyless, pushed_roomless, pushed_late, pushed_stored}
 use Rattle.chain.proofs.push.Statement.{statement}
 use Rattle.chain.proofs.push.Tie as tie
 
 returns : tie.Need-returns
-returns c = sym (pushed-keyless _ _ _ _ (search rules))
+returns c = sym (pushed_keyless _ _ _ _ (search rules))
 
 returns-2 : tie.Need-returns-2
-returns-2 c = sym (pushed-roomless _ _ _ _ (search rules))
+returns-2 c = sym (pushed_roomless _ _ _ _ (search rules))
 
 sub-if3 : tie.Need-overflow-sub-if3
 sub-if3 c = search rules
 
 returns-3 : tie.Need-returns-3
-returns-3 c = sym (pushed-roomless _ _ _ _ (search rules))
+returns-3 c = sym (pushed_roomless _ _ _ _ (search rules))
 
 returns-4 : tie.Need-returns-4
-returns-4 c = sym (pushed-late _ _ _ _ (search rules))
+returns-4 c = sym (pushed_late _ _ _ _ (search rules))
 
 mul-index : tie.Need-overflow-mul-index
 mul-index c = search rules
@@ -52,7 +52,7 @@ same_length : tie.Need-same-length
 same_length c = search rules
 
 returns-5 : tie.Need-returns-5
-returns-5 c = sym (pushed-stored _ _ _ _ (search rules) (search rules) (search rules))
+returns-5 c = sym (pushed_stored _ _ _ _ (search rules) (search rules) (search rules))
 
 pub push_spec : {M : Type 1} → statement M
 push_spec =

@@ -6,18 +6,18 @@ use native.Mathlib.Omega.{arith}
 use lib.ListN.{length}
 use borrow.Author.Rules.{rules}
 use Rattle.split.specs.Split.{Distinct}
-use Rattle.split.specs.Row.{cornersOf}
+use Rattle.split.specs.Row.{corners_of}
 use Rattle.tables.specs.declared.layout.Counts.{Counts}
 use Rattle.tables.specs.declared.layout.Size.{Size}
-use Rattle.tables.specs.Layout.{no_row, recordAt, row_at}
-use Rattle.tables.proofs.laws.View.{length-up-to, up-to-at}
+use Rattle.tables.specs.Layout.{no_row, record_at, row_at}
+use Rattle.tables.proofs.laws.View.{length_up_to, up_to_at}
 use Rattle.intake.specs.declared.answer.Found.TheVariants.{At, Nowhere}
-use Rattle.sound.proofs.laws.Placed.{row-distinct}
-use Rattle.run.specs.Ready.{rankIn}
+use Rattle.sound.proofs.laws.Placed.{row_distinct}
+use Rattle.run.specs.Ready.{rank_in}
 use Rattle.run.specs.Ready as ready
 use Rattle.run.specs.Run.{blocking, blocked, below, after}
-use Rattle.run.proofs.laws.Runs.{run-records, block-open}
-use Rattle.run.proofs.laws.Reach.{reach-ready, reach-on, block-less, rank-stays, waits}
+use Rattle.run.proofs.laws.Runs.{run_records, block_open}
+use Rattle.run.proofs.laws.Reach.{reach_ready, reach_on, block_less, rank_stays, waits}
 use Rattle.closure.specs.declared.step.Look.{Look}
 use Rattle.closure.specs.declared.step.Patch.{Patch}
 use Rattle.closure.specs.declared.step.Patch.TheVariants as patch
@@ -25,94 +25,94 @@ use Rattle.closure.specs.declared.step.Step.{Step}
 use Rattle.closure.specs.declared.step.Step.TheVariants.{Done, Full}
 use Rattle.closure.specs.State.{rows_of, seen, State}
 use Rattle.closure.specs.Refining.{Tables, Sure, Jammed, Refines, Cuttable, Lookable, Looks, Clearing, Cleared, Clears}
-use Rattle.closure.proofs.laws.Cutting.{refines-full}
+use Rattle.closure.proofs.laws.Cutting.{refines_full}
 
 -- ---- the answers
 
-clear-counts : (a b : Counts) (j k : ℕ) → patch.Clear a j ≡ patch.Clear b k → a ≡ b
-clear-counts a b j k e = cc
+clear_counts : (a b : Counts) (j k : ℕ) → patch.Clear a j ≡ patch.Clear b k → a ≡ b
+clear_counts a b j k e = cc
 
-clear-size : (a b : Counts) (j k : ℕ) → patch.Clear a j ≡ patch.Clear b k → j ≡ k
-clear-size a b j k e = cc
+clear_size : (a b : Counts) (j k : ℕ) → patch.Clear a j ≡ patch.Clear b k → j ≡ k
+clear_size a b j k e = cc
 
-full-counts : (a b : Counts) → patch.Full a ≡ patch.Full b → a ≡ b
-full-counts a b e = cc
+full_counts : (a b : Counts) → patch.Full a ≡ patch.Full b → a ≡ b
+full_counts a b e = cc
 
 never : {X : Type 0} (a b : Counts) (k : ℕ) → patch.Clear a k ≡ patch.Full b → X
 never a b k e = let z : ◌≡◌ {A = ℕ} 0 1 = cc in absurd (omega arith)
 
-clears-clear : {r w r' w' s' : List ℕ} {c : Counts} {room : Size} {d : Counts} {q k : ℕ} → Cleared (seen r w c) q room r' w' s' d k → Clears r w c room q (patch.Clear d k) r' w' s'
-clears-clear {r} {w} {r'} {w'} {s'} {c} {room} {d} {q} {k} x = record {
-  clear = λ a j e. subst (λ (b : Counts). Cleared (seen r w c) q room r' w' s' b j) (clear-counts d a k j e) (subst (Cleared (seen r w c) q room r' w' s' d) (clear-size d a k j e) x);
+clears_clear : {r w r' w' s' : List ℕ} {c : Counts} {room : Size} {d : Counts} {q k : ℕ} → Cleared (seen r w c) q room r' w' s' d k → Clears r w c room q (patch.Clear d k) r' w' s'
+clears_clear {r} {w} {r'} {w'} {s'} {c} {room} {d} {q} {k} x = record {
+  clear = λ a j e. subst (λ (b : Counts). Cleared (seen r w c) q room r' w' s' b j) (clear_counts d a k j e) (subst (Cleared (seen r w c) q room r' w' s' d) (clear_size d a k j e) x);
   full = λ a e. never d a k e;
 }
 
-clears-full : {r w r' w' s' : List ℕ} {c : Counts} {room : Size} {d : Counts} {q : ℕ} → Jammed (seen r w c) q room r' w' s' d → Clears r w c room q (patch.Full d) r' w' s'
-clears-full {r} {w} {r'} {w'} {s'} {c} {room} {d} {q} x = record { clear = λ a j e. never a d j (sym e); full = λ a e. subst (Jammed (seen r w c) q room r' w' s') (full-counts d a e) x }
+clears_full : {r w r' w' s' : List ℕ} {c : Counts} {room : Size} {d : Counts} {q : ℕ} → Jammed (seen r w c) q room r' w' s' d → Clears r w c room q (patch.Full d) r' w' s'
+clears_full {r} {w} {r'} {w'} {s'} {c} {room} {d} {q} x = record { clear = λ a j e. never a d j (sym e); full = λ a e. subst (Jammed (seen r w c) q room r' w' s') (full_counts d a e) x }
 
 -- ---- clearing
 
 -- only the scratch table was written
-tables-scratch : {r w s s' : List ℕ} {c : Counts} {room : Size} → Tables r w s c room → State w s' c.rows → Tables r w s' c room
-tables-scratch t x = record {
+tables_scratch : {r w s s' : List ℕ} {c : Counts} {room : Size} → Tables r w s c room → State w s' c.rows → Tables r w s' c room
+tables_scratch t x = record {
   state = x;
-  vertices-in = t.vertices-in;
+  vertices_in = t.vertices_in;
   rows_in = t.rows_in;
-  few-vertices = t.few-vertices;
-  few-rows = t.few-rows;
-  records-fit = t.records-fit;
+  few_vertices = t.few_vertices;
+  few_rows = t.few_rows;
+  records_fit = t.records_fit;
   rows_fit = t.rows_fit;
   blank = t.blank;
 }
 
-pub clearing-start : {r w s : List ℕ} {c : Counts} {room : Size} {q : ℕ} → Sure r w s c room q → Clearing r w s c room q r w s c
-clearing-start x = record { sure = x; towards = record { runs = λ U p. p; stuck = λ p. p }; reach = ready.here refl; rank = refl; records-size = refl; rows-size = refl; scratch-size = refl }
+pub clearing_start : {r w s : List ℕ} {c : Counts} {room : Size} {q : ℕ} → Sure r w s c room q → Clearing r w s c room q r w s c
+clearing_start x = record { sure = x; towards = record { runs = λ U p. p; stuck = λ p. p }; reach = ready.here refl; rank = refl; records_size = refl; rows_size = refl; scratch_size = refl }
 
 module _ {r₀ w₀ s₀ r w s : List ℕ} {c : Counts} {room : Size} {d : Counts} {q : ℕ} (x : Clearing r₀ w₀ s₀ c room q r w s d) where
   size : length (rows_of w d.rows) ≡ d.rows
-  size = length-up-to (row_at w) d.rows
+  size = length_up_to (row_at w) d.rows
 
-  pub clearing-look : Lookable w s d.rows q
-  clearing-look = record {
+  pub clearing_look : Lookable w s d.rows q
+  clearing_look = record {
     state = x.sure.tables.state;
-    distinct = λ k h. subst (λ (z : _). Distinct 3 (cornersOf z)) (up-to-at (row_at w) d.rows k no_row h) (row-distinct x.sure.ready.grown k (rw size h));
+    distinct = λ k h. subst (λ (z : _). Distinct 3 (corners_of z)) (up_to_at (row_at w) d.rows k no_row h) (row_distinct x.sure.ready.grown k (rw size h));
     there = omega (arith, x.sure.ripe.there, size);
   }
 
   module _ {o : Look} {s' : List ℕ} (l : Looks w d.rows q o s') where
-    sure-now : Sure r w s' d room q
-    sure-now = record { tables = tables-scratch x.sure.tables l.state; points = x.sure.points; initials = x.sure.initials; roots = x.sure.roots; ready = x.sure.ready; ripe = x.sure.ripe }
+    sure_now : Sure r w s' d room q
+    sure_now = record { tables = tables_scratch x.sure.tables l.state; points = x.sure.points; initials = x.sure.initials; roots = x.sure.roots; ready = x.sure.ready; ripe = x.sure.ripe }
 
-    pub clearing-clear : o.other ≡ Nowhere → Clears r₀ w₀ c room q (patch.Clear d o.size) r w s'
-    clearing-clear e = clears-clear (record { towards = x.towards; reach = x.reach; cuttable = record { sure = sure-now; listed = l.listed; clear = sym l.other ∙ e } })
+    pub clearing_clear : o.other ≡ Nowhere → Clears r₀ w₀ c room q (patch.Clear d o.size) r w s'
+    clearing_clear e = clears_clear (record { towards = x.towards; reach = x.reach; cuttable = record { sure = sure_now; listed = l.listed; clear = sym l.other ∙ e } })
 
     module _ {b : ℕ} (e : o.other ≡ At b) where
       blocks : blocking (rows_of w d.rows) q ≡ At b
       blocks = sym l.other ∙ e
 
-      pub clearing-block : Sure r w s' d room b
-      clearing-block = record {
-        tables = tables-scratch x.sure.tables l.state;
+      pub clearing_block : Sure r w s' d room b
+      clearing_block = record {
+        tables = tables_scratch x.sure.tables l.state;
         points = x.sure.points;
         initials = x.sure.initials;
         roots = x.sure.roots;
         ready = x.sure.ready;
-        ripe = block-open x.sure.ready q b x.sure.ripe blocks;
+        ripe = block_open x.sure.ready q b x.sure.ripe blocks;
       }
 
-      pub clearing-falls : rankIn (seen r w d) b < rankIn (seen r₀ w₀ c) q
-      clearing-falls = rw (← x.rank) (block-less x.sure.ready q b x.sure.ripe blocks)
+      pub clearing_falls : rank_in (seen r w d) b < rank_in (seen r₀ w₀ c) q
+      clearing_falls = rw (← x.rank) (block_less x.sure.ready q b x.sure.ripe blocks)
 
       module _ {p : Step} {r' w' s'' : List ℕ} (f : Refines r w d room b p r' w' s'') {y : Counts} where
-        pub clearing-full : p ≡ Full y → Clears r₀ w₀ c room q (patch.Full y) r' w' s''
-        clearing-full z = let j = f.full y z in clears-full (record { stuck = x.towards.stuck (below blocks j.stuck); reach = reach-on x.reach j.reach; tables = j.tables })
+        pub clearing_full : p ≡ Full y → Clears r₀ w₀ c room q (patch.Full y) r' w' s''
+        clearing_full z = let j = f.full y z in clears_full (record { stuck = x.towards.stuck (below blocks j.stuck); reach = reach_on x.reach j.reach; tables = j.tables })
 
         module _ (z : p ≡ Done y) where
           few : length (seen r' w' y).records < 4294967295
-          few = let t = (f.done y z).tables in omega (arith, length-up-to (recordAt r') y.vertices, t.vertices-in, t.few-vertices)
+          few = let t = (f.done y z).tables in omega (arith, length_up_to (record_at r') y.vertices, t.vertices_in, t.few_vertices)
 
-          pub clearing-next : length r' ≡ length r → length w' ≡ length w → length s'' ≡ length s' → length s' ≡ length s → Clearing r₀ w₀ s₀ c room q r' w' s'' y
-          clearing-next er ew es el =
+          pub clearing_next : length r' ≡ length r → length w' ≡ length w → length s'' ≡ length s' → length s' ≡ length s → Clearing r₀ w₀ s₀ c room q r' w' s'' y
+          clearing_next er ew es el =
               let j = f.done y z in
               let t = j.tables in
               record {
@@ -121,55 +121,55 @@ module _ {r₀ w₀ s₀ r w s : List ℕ} {c : Counts} {room : Size} {d : Count
                   points = x.sure.points;
                   initials = x.sure.initials;
                   roots = x.sure.roots;
-                  ready = reach-ready j.reach x.sure.ready;
+                  ready = reach_ready j.reach x.sure.ready;
                   ripe = waits x.sure.ready q b x.sure.ripe blocks j.run few;
                 };
                 towards = record {
                   runs = λ U g. x.towards.runs U (blocked blocks j.run g);
-                  stuck = λ g. x.towards.stuck (after blocks j.run (record { vertices = rw (length-up-to (recordAt r') y.vertices) t.vertices-in; rows = rw (length-up-to (row_at w') y.rows) t.rows_in }) g);
+                  stuck = λ g. x.towards.stuck (after blocks j.run (record { vertices = rw (length_up_to (record_at r') y.vertices) t.vertices_in; rows = rw (length_up_to (row_at w') y.rows) t.rows_in }) g);
                 };
-                reach = reach-on x.reach j.reach;
-                rank = rank-stays x.sure.ready j.reach q x.sure.ripe.there ∙ x.rank;
-                records-size = er ∙ x.records-size;
-                rows-size = ew ∙ x.rows-size;
-                scratch-size = es ∙ el ∙ x.scratch-size;
+                reach = reach_on x.reach j.reach;
+                rank = rank_stays x.sure.ready j.reach q x.sure.ripe.there ∙ x.rank;
+                records_size = er ∙ x.records_size;
+                rows_size = ew ∙ x.rows_size;
+                scratch_size = es ∙ el ∙ x.scratch_size;
               }
 
-          pub clearing-less : room.vertices - y.vertices < room.vertices - d.vertices
-          clearing-less = let j = f.done y z in omega (arith, run-records j.run, length-up-to (recordAt r) d.vertices, length-up-to (recordAt r') y.vertices, j.tables.vertices-in, x.sure.tables.vertices-in)
+          pub clearing_less : room.vertices - y.vertices < room.vertices - d.vertices
+          clearing_less = let j = f.done y z in omega (arith, run_records j.run, length_up_to (record_at r) d.vertices, length_up_to (record_at r') y.vertices, j.tables.vertices_in, x.sure.tables.vertices_in)
 
   -- the tables keep their lengths, whatever was written to them since
-  pub records-sized : {n : ℕ} → n ≡ length r → n ≡ length r₀
-  records-sized e = e ∙ x.records-size
+  pub records_sized : {n : ℕ} → n ≡ length r → n ≡ length r₀
+  records_sized e = e ∙ x.records_size
 
-  pub rows-sized : {n : ℕ} → n ≡ length w → n ≡ length w₀
-  rows-sized e = e ∙ x.rows-size
+  pub rows_sized : {n : ℕ} → n ≡ length w → n ≡ length w₀
+  rows_sized e = e ∙ x.rows_size
 
-  pub scratch-sized : {m n : ℕ} → n ≡ m → m ≡ length s → n ≡ length s₀
-  scratch-sized e f = e ∙ f ∙ x.scratch-size
+  pub scratch_sized : {m n : ℕ} → n ≡ m → m ≡ length s → n ≡ length s₀
+  scratch_sized e f = e ∙ f ∙ x.scratch_size
 
 -- the measure: twice the rank, and one more for refining
-pub half-falls : {t a b : ℕ} → 2 * a ≡ t → b < a → 2 * b + 1 < t
-half-falls e h = omega (arith, e, h)
+pub half_falls : {t a b : ℕ} → 2 * a ≡ t → b < a → 2 * b + 1 < t
+half_falls e h = omega (arith, e, h)
 
-pub ruleset clearing = (clearing-start, clearing-look, clearing-clear, clearing-block, clearing-full, clearing-next, clearing-less, rules)
+pub ruleset clearing = (clearing_start, clearing_look, clearing_clear, clearing_block, clearing_full, clearing_next, clearing_less, rules)
 
 -- ---- refining
 
 module _ {r w r' w' s' : List ℕ} {c : Counts} {room : Size} {q : ℕ} {o : Patch} (x : Clears r w c room q o r' w' s') {d : Counts} where
-  pub refine-full : o ≡ patch.Full d → Refines r w c room q (Full d) r' w' s'
-  refine-full e = refines-full (x.full d e)
+  pub refine_full : o ≡ patch.Full d → Refines r w c room q (Full d) r' w' s'
+  refine_full e = refines_full (x.full d e)
 
   module _ {k : ℕ} (e : o ≡ patch.Clear d k) where
-    pub refine-ready : Cuttable r' w' s' d room q k
-    refine-ready = (x.clear d k e).cuttable
+    pub refine_ready : Cuttable r' w' s' d room q k
+    refine_ready = (x.clear d k e).cuttable
 
-    pub refine-done : {p : Step} {r'' w'' s'' : List ℕ} → Refines r' w' d room q p r'' w'' s'' → Refines r w c room q p r'' w'' s''
-    refine-done f =
+    pub refine_done : {p : Step} {r'' w'' s'' : List ℕ} → Refines r' w' d room q p r'' w'' s'' → Refines r w c room q p r'' w'' s''
+    refine_done f =
         let y = x.clear d k e in
         record {
-          done = λ a z. let j = f.done a z in record { run = y.towards.runs _ j.run; reach = reach-on y.reach j.reach; tables = j.tables };
-          full = λ a z. let j = f.full a z in record { stuck = y.towards.stuck j.stuck; reach = reach-on y.reach j.reach; tables = j.tables };
+          done = λ a z. let j = f.done a z in record { run = y.towards.runs _ j.run; reach = reach_on y.reach j.reach; tables = j.tables };
+          full = λ a z. let j = f.full a z in record { stuck = y.towards.stuck j.stuck; reach = reach_on y.reach j.reach; tables = j.tables };
         }
 
-pub ruleset refining = (refine-full, refine-ready, refine-done, rules)
+pub ruleset refining = (refine_full, refine_ready, refine_done, rules)

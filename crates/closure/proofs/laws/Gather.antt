@@ -11,51 +11,51 @@ use borrow.Author.Rules.{rules}
 use Rattle.split.specs.declared.row.Row.{Row}
 use Rattle.split.specs.declared.row.Ends.{Ends}
 use Rattle.split.specs.Split.{at, Holds}
-use Rattle.split.specs.Row.{cornersOf}
+use Rattle.split.specs.Row.{corners_of}
 use Rattle.chain.specs.Chain.{latest, Indexed}
-use Rattle.chain.proofs.laws.Index.{next-link}
-use Rattle.chain.proofs.laws.Walk.{latest-between, latest-below, latest-miss, latest-some}
-use Rattle.tables.specs.Layout.{no_row, row_at, mostRows}
+use Rattle.chain.proofs.laws.Index.{next_link}
+use Rattle.chain.proofs.laws.Walk.{latest_between, latest_below, latest_miss, latest_some}
+use Rattle.tables.specs.Layout.{no_row, row_at, most_rows}
 use Rattle.tables.specs.Mesh.{up_to}
-use Rattle.tables.proofs.laws.View.{length-up-to, up-to-at}
-use Rattle.opening.proofs.laws.Indexing.{indexed-kept}
-use Rattle.closure.specs.State.{corner, rows_of, linksAt, patchIn, EndOf, small, large, otherEnd, leafWith, Gatherable, Gathers}
+use Rattle.tables.proofs.laws.View.{length_up_to, up_to_at}
+use Rattle.opening.proofs.laws.Indexing.{indexed_kept}
+use Rattle.closure.specs.State.{corner, rows_of, links_at, patch_in, EndOf, small, large, other_end, leaf_with, Gatherable, Gathers}
 use Rattle.run.specs.Skeleton.{row_in}
-use Rattle.run.specs.Run.{holding, holdersFrom}
-use Rattle.run.proofs.laws.Holders.{Holding, holding-is, holds_has, from-hit, from-miss}
-use Rattle.closure.proofs.laws.Index.{corner-row, state-holds}
-use Rattle.closure.proofs.laws.Tests.{holding-other}
+use Rattle.run.specs.Run.{holding, holders_from}
+use Rattle.run.proofs.laws.Holders.{Holding, holding_is, holds_has, from_hit, from_miss}
+use Rattle.closure.proofs.laws.Index.{corner_row, state_holds}
+use Rattle.closure.proofs.laws.Tests.{holding_other}
 
 -- ---- the list in the scratch table
 
 module _ (s : List ℕ) (k q : ℕ) where
   abbrev place : ℕ
-  place = length s - (linksAt + (k + 1))
+  place = length s - (links_at + (k + 1))
 
   -- the numbers from that place on, once q stands there
   abbrev put : ℕ → ℕ
   put j = get_or (set s place q) (place + j) 0
 
-  patch-cons : linksAt + k < length s → patchIn (set s place q) (k + 1) ≡ q ∷ patchIn s k
-  patch-cons h =
-      ap (λ (m : ℕ). up_to (λ (j : ℕ). get_or (set s place q) (m - (linksAt + (k + 1)) + j) 0) (k + 1)) (length-set s place q)
-      ∙ ext_get_or 0 _ _ (length-up-to _ (k + 1) ∙ add-one k ∙ ap suc (sym (length-up-to _ k))) (λ i l. go i (omega (arith, length-up-to put (k + 1), l)))
+  patch_cons : links_at + k < length s → patch_in (set s place q) (k + 1) ≡ q ∷ patch_in s k
+  patch_cons h =
+      ap (λ (m : ℕ). up_to (λ (j : ℕ). get_or (set s place q) (m - (links_at + (k + 1)) + j) 0) (k + 1)) (length-set s place q)
+      ∙ ext_get_or 0 _ _ (length_up_to _ (k + 1) ∙ add-one k ∙ ap suc (sym (length_up_to _ k))) (λ i l. go i (omega (arith, length_up_to put (k + 1), l)))
     where
-      go : (i : ℕ) → i < k + 1 → get_or (up_to put (k + 1)) i 0 ≡ get_or (q ∷ patchIn s k) i 0
+      go : (i : ℕ) → i < k + 1 → get_or (up_to put (k + 1)) i 0 ≡ get_or (q ∷ patch_in s k) i 0
       go zero l =
           let first : place + 0 ≡ place = omega arith in
-          up-to-at put (k + 1) 0 0 l ∙ rw first (get_or-set_same s place q 0 (omega arith))
+          up_to_at put (k + 1) 0 0 l ∙ rw first (get_or-set_same s place q 0 (omega arith))
       go (suc i) l =
-          let next : place + suc i ≡ length s - (linksAt + k) + i = omega arith in
-          up-to-at put (k + 1) (suc i) 0 l
-          ∙ rw next (get_or-set_other s place (length s - (linksAt + k) + i) q 0 (λ e. omega arith))
-          ∙ sym (up-to-at (λ (j : ℕ). get_or s (length s - (linksAt + k) + j) 0) k i 0 (omega arith))
+          let next : place + suc i ≡ length s - (links_at + k) + i = omega arith in
+          up_to_at put (k + 1) (suc i) 0 l
+          ∙ rw next (get_or-set_other s place (length s - (links_at + k) + i) q 0 (λ e. omega arith))
+          ∙ sym (up_to_at (λ (j : ℕ). get_or s (length s - (links_at + k) + j) 0) k i 0 (omega arith))
 
 -- ---- rows that are not in the patch
 
 -- none of m rows is in the patch
-skip : (W : List Row) (e : Ends) (m d r : ℕ) → ((q : ℕ) → r ≤ q → q < r + m → holding e (row_in W q) ≡ false) → holdersFrom W e (m + d) r ≡ holdersFrom W e d (r + m)
-skip W e zero d r h = λ j. holdersFrom W e (left j) (right j)
+skip : (W : List Row) (e : Ends) (m d r : ℕ) → ((q : ℕ) → r ≤ q → q < r + m → holding e (row_in W q) ≡ false) → holders_from W e (m + d) r ≡ holders_from W e d (r + m)
+skip W e zero d r h = λ j. holders_from W e (left j) (right j)
   where
     left : 0 + d ≡ d
     left = omega arith
@@ -63,7 +63,7 @@ skip W e zero d r h = λ j. holdersFrom W e (left j) (right j)
     right : r ≡ r + 0
     right = omega arith
 skip W e (suc m) d r h =
-    ap (λ (x : ℕ). holdersFrom W e x r) more ∙ from-miss W e (m + d) r (h r (omega arith) (omega arith)) ∙ skip W e m d (suc r) (λ q a b. h q (omega arith) (omega arith)) ∙ ap (holdersFrom W e d) step
+    ap (λ (x : ℕ). holders_from W e x r) more ∙ from_miss W e (m + d) r (h r (omega arith) (omega arith)) ∙ skip W e m d (suc r) (λ q a b. h q (omega arith) (omega arith)) ∙ ap (holders_from W e d) step
   where
     more : suc m + d ≡ suc (m + d)
     more = omega arith
@@ -75,9 +75,9 @@ false_of : (b : Bool) → (b ≡ true → ⊥) → b ≡ false
 false_of true h = absurd (h refl)
 false_of false h = refl
 
-end-held : {e : Ends} {a : ℕ} {r : Row} → EndOf e a → Holding e r → Holds 3 (cornersOf r) a
-end-held (small x) h = rw x h.small
-end-held (large x) h = rw x h.large
+end_held : {e : Ends} {a : ℕ} {r : Row} → EndOf e a → Holding e r → Holds 3 (corners_of r) a
+end_held (small x) h = rw x h.small
+end_held (large x) h = rw x h.large
 
 -- ---- the walk
 
@@ -87,55 +87,55 @@ behind i = (i + 3) / 4
 
 pub record Walk (w s₀ s : List ℕ) (n : ℕ) (e : Ends) (a i k : ℕ) : Type 0 where
   pub size : length s ≡ length s₀
-  pub index : Indexed (corner w) (4 * n) linksAt s
+  pub index : Indexed (corner w) (4 * n) links_at s
   pub below : i ≤ 4 * n
   pub here : 0 < i → corner w (i - 1) ≡ a
   pub few : k ≤ n - behind i
-  pub patch : patchIn s k ≡ holdersFrom (rows_of w n) e (n - behind i) (behind i)
+  pub patch : patch_in s k ≡ holders_from (rows_of w n) e (n - behind i) (behind i)
 
 module _ {w s₀ : List ℕ} {n : ℕ} {e : Ends} {a : ℕ} (g : Gatherable w s₀ n e a) where
   row_is : (q : ℕ) → q < n → row_in (rows_of w n) q ≡ row_at w q
-  row_is q h = up-to-at (row_at w) n q no_row h
+  row_is q h = up_to_at (row_at w) n q no_row h
 
   -- a row of the patch has a slot of a
   missed : (q : ℕ) → q < n → ((p : ℕ) → p ≤ 3 → corner w (4 * q + p) ≡ a → ⊥) → holding e (row_in (rows_of w n) q) ≡ false
-  missed q h d = false_of _ (λ t. let k = end-held g.end (holding-is e (row_in (rows_of w n) q) t) in d k.place k.inside (corner-row w q k.place k.inside ∙ ap (λ (r : Row). at (cornersOf r) k.place) (sym (row_is q h)) ∙ k.is))
+  missed q h d = false_of _ (λ t. let k = end_held g.end (holding_is e (row_in (rows_of w n) q) t) in d k.place k.inside (corner_row w q k.place k.inside ∙ ap (λ (r : Row). at (corners_of r) k.place) (sym (row_is q h)) ∙ k.is))
 
   -- rows whose slots are all between the latest slot of a and slot m
   gap : (m q : ℕ) → m ≤ 4 * n → latest (corner w) a m ≤ 4 * q → 4 * q + 4 ≤ m → holding e (row_in (rows_of w n) q) ≡ false
-  gap m q h l k = missed q (omega arith) (λ p b. latest-between (corner w) a m (4 * q + p) (omega arith) (omega arith))
+  gap m q h l k = missed q (omega arith) (λ p b. latest_between (corner w) a m (4 * q + p) (omega arith) (omega arith))
 
   -- the rows from the latest slot of a below m on, where the rows before slot m are looked at in whole
-  leap : (m d : ℕ) → 4 * m ≤ 4 * n → m + d ≡ n → holdersFrom (rows_of w n) e (n - behind (latest (corner w) a (4 * m))) (behind (latest (corner w) a (4 * m))) ≡ holdersFrom (rows_of w n) e d m
+  leap : (m d : ℕ) → 4 * m ≤ 4 * n → m + d ≡ n → holders_from (rows_of w n) e (n - behind (latest (corner w) a (4 * m))) (behind (latest (corner w) a (4 * m))) ≡ holders_from (rows_of w n) e d m
   leap m d h f =
       let i = latest (corner w) a (4 * m) in
-      let low = latest-below (corner w) a (4 * m) in
+      let low = latest_below (corner w) a (4 * m) in
       let start : n - behind i ≡ (m - behind i) + d = omega arith in
       let end : behind i + (m - behind i) ≡ m = omega arith in
-      ap (λ (x : ℕ). holdersFrom (rows_of w n) e x (behind i)) start
+      ap (λ (x : ℕ). holders_from (rows_of w n) e x (behind i)) start
       ∙ skip (rows_of w n) e (m - behind i) d (behind i) (λ q x y. gap (4 * m) q h (omega arith) (omega arith))
-      ∙ ap (holdersFrom (rows_of w n) e d) end
+      ∙ ap (holders_from (rows_of w n) e d) end
 
   -- the slots of one row are different vertices
   alone : (q p r : ℕ) → q < n → p ≤ 3 → r ≤ 3 → corner w (4 * q + p) ≡ a → corner w (4 * q + r) ≡ a → p ≡ r
-  alone q p r h x y b c = (g.distinct q h).apart p r x y (sym (corner-row w q p x) ∙ b ∙ sym c ∙ corner-row w q r y)
+  alone q p r h x y b c = (g.distinct q h).apart p r x y (sym (corner_row w q p x) ∙ b ∙ sym c ∙ corner_row w q r y)
 
   -- so the latest slot of a before one of them is before its row
-  latest-row : (q p r : ℕ) → q < n → r ≤ p → p ≤ 3 → corner w (4 * q + p) ≡ a → latest (corner w) a (4 * q + r) ≡ latest (corner w) a (4 * q)
-  latest-row q p zero h l k b = let none : 4 * q + 0 ≡ 4 * q = omega arith in ap (latest (corner w) a) none
-  latest-row q p (suc r) h l k b =
+  latest_row : (q p r : ℕ) → q < n → r ≤ p → p ≤ 3 → corner w (4 * q + p) ≡ a → latest (corner w) a (4 * q + r) ≡ latest (corner w) a (4 * q)
+  latest_row q p zero h l k b = let none : 4 * q + 0 ≡ 4 * q = omega arith in ap (latest (corner w) a) none
+  latest_row q p (suc r) h l k b =
       let next : 4 * q + suc r ≡ suc (4 * q + r) = omega arith in
-      ap (latest (corner w) a) next ∙ latest-miss (corner w) a (4 * q + r) (λ c. let z = alone q p r h k (omega arith) b c in omega arith) ∙ latest-row q p r h (omega arith) k b
+      ap (latest (corner w) a) next ∙ latest_miss (corner w) a (4 * q + r) (λ c. let z = alone q p r h k (omega arith) b c in omega arith) ∙ latest_row q p r h (omega arith) k b
 
   pub walk_start : {i x : ℕ} → x ≡ a → i ≡ get_or s₀ x 0 → Walk w s₀ s₀ n e a i 0
-  unfolding holdersFrom up_to
+  unfolding holders_from up_to
   walk_start {i} q f =
       let head : i ≡ latest (corner w) a (4 * n) = f ∙ ap (λ (y : ℕ). get_or s₀ y 0) q ∙ g.state.index.heads a g.low in
       record {
         size = refl;
         index = g.state.index;
-        below = omega (arith, head, latest-below (corner w) a (4 * n));
-        here = λ l. (latest-some (corner w) a (4 * n) (i - 1) (omega (arith, head))).1;
+        below = omega (arith, head, latest_below (corner w) a (4 * n));
+        here = λ l. (latest_some (corner w) a (4 * n) (i - 1) (omega (arith, head))).1;
         few = omega arith;
         patch = rw head (sym (leap n 0 (omega arith) (omega arith)));
       }
@@ -145,34 +145,34 @@ module _ {w s₀ : List ℕ} {n : ℕ} {e : Ends} {a : ℕ} (g : Gatherable w s�
     abbrev q : ℕ
     q = (i - 1) / 4
 
-    row-there : q < n
-    row-there = omega (arith, x.below)
+    row_there : q < n
+    row_there = omega (arith, x.below)
 
-    pub walk-room : k < mostRows
-    walk-room = omega (arith, x.few, x.below, g.state.few)
+    pub walk_room : k < most_rows
+    walk_room = omega (arith, x.few, x.below, g.state.few)
 
     holds : 40000 + 5 * n ≤ length s
-    holds = rw x.size (state-holds g.state)
+    holds = rw x.size (state_holds g.state)
 
-    pub walk-fits : linksAt + k < length s
-    walk-fits = omega (arith, x.few, x.below, holds)
+    pub walk_fits : links_at + k < length s
+    walk_fits = omega (arith, x.few, x.below, holds)
 
     -- what is listed after row q was looked at
-    listed : (b : Bool) → holding e (row_in (rows_of w n) q) ≡ b → patchIn (cond b (set s (length s - (linksAt + (k + 1))) q) s) (cond b (k + 1) k) ≡ holdersFrom (rows_of w n) e (n - q) q
+    listed : (b : Bool) → holding e (row_in (rows_of w n) q) ≡ b → patch_in (cond b (set s (length s - (links_at + (k + 1))) q) s) (cond b (k + 1) k) ≡ holders_from (rows_of w n) e (n - q) q
     listed b t =
-        let size : n - q ≡ suc (n - behind i) = omega (arith, row-there, more) in
+        let size : n - q ≡ suc (n - behind i) = omega (arith, row_there, more) in
         let next : suc q ≡ behind i = omega (arith, more) in
         rw size (go b t next)
       where
-        go : (b : Bool) → holding e (row_in (rows_of w n) q) ≡ b → suc q ≡ behind i → patchIn (cond b (set s (length s - (linksAt + (k + 1))) q) s) (cond b (k + 1) k) ≡ holdersFrom (rows_of w n) e (suc (n - behind i)) q
-        go true t f = patch-cons s k q walk-fits ∙ ap (λ (l : List ℕ). q ∷ l) (x.patch ∙ ap (holdersFrom (rows_of w n) e (n - behind i)) (sym f)) ∙ sym (from-hit (rows_of w n) e (n - behind i) q t)
-        go false t f = x.patch ∙ ap (holdersFrom (rows_of w n) e (n - behind i)) (sym f) ∙ sym (from-miss (rows_of w n) e (n - behind i) q t)
+        go : (b : Bool) → holding e (row_in (rows_of w n) q) ≡ b → suc q ≡ behind i → patch_in (cond b (set s (length s - (links_at + (k + 1))) q) s) (cond b (k + 1) k) ≡ holders_from (rows_of w n) e (suc (n - behind i)) q
+        go true t f = patch_cons s k q walk_fits ∙ ap (λ (l : List ℕ). q ∷ l) (x.patch ∙ ap (holders_from (rows_of w n) e (n - behind i)) (sym f)) ∙ sym (from_hit (rows_of w n) e (n - behind i) q t)
+        go false t f = x.patch ∙ ap (holders_from (rows_of w n) e (n - behind i)) (sym f) ∙ sym (from_miss (rows_of w n) e (n - behind i) q t)
 
-    indexed : (b : Bool) → Indexed (corner w) (4 * n) linksAt (cond b (set s (length s - (linksAt + (k + 1))) q) s)
-    indexed true = indexed-kept (length-set s _ q) (λ j h. get_or-set_other s (length s - (linksAt + (k + 1))) j q 0 (λ z. omega (arith, x.few, x.below, holds))) x.index
+    indexed : (b : Bool) → Indexed (corner w) (4 * n) links_at (cond b (set s (length s - (links_at + (k + 1))) q) s)
+    indexed true = indexed_kept (length-set s _ q) (λ j h. get_or-set_other s (length s - (links_at + (k + 1))) j q 0 (λ z. omega (arith, x.few, x.below, holds))) x.index
     indexed false = x.index
 
-    sized : (b : Bool) → length (cond b (set s (length s - (linksAt + (k + 1))) q) s) ≡ length s₀
+    sized : (b : Bool) → length (cond b (set s (length s - (links_at + (k + 1))) q) s) ≡ length s₀
     sized true = length-set s _ q ∙ x.size
     sized false = x.size
 
@@ -184,46 +184,46 @@ module _ {w s₀ : List ℕ} {n : ℕ} {e : Ends} {a : ℕ} (g : Gatherable w s�
     slot = omega arith
 
     -- the row of the slot holds a, so what was asked of it is whether it is in the patch
-    same_row : {b : ℕ} → b ≡ otherEnd e a → leafWith b (row_at w q) ≡ holding e (row_at w q)
-    same_row f = rw f (holding-other (row_at w q) g.end (holds_has (row_at w q) a (record { place = (i - 1) % 4; inside = omega arith; is = x.here more })))
+    same_row_lem : {b : ℕ} → b ≡ other_end e a → leaf_with b (row_at w q) ≡ holding e (row_at w q)
+    same_row_lem f = rw f (holding_other (row_at w q) g.end (holds_has (row_at w q) a (record { place = (i - 1) % 4; inside = omega arith; is = x.here more })))
 
-    module _ {b : ℕ} (eb : b ≡ otherEnd e a) {s' : List ℕ} {k' next : ℕ} (kept : k' ≡ cond (leafWith b (row_at w q)) (k + 1) k) (stored : s' ≡ cond (leafWith b (row_at w q)) (set s (length s - (linksAt + (k + 1))) q) s) (en : next ≡ get_or s' (linksAt + (i - 1)) 0) where
+    module _ {b : ℕ} (eb : b ≡ other_end e a) {s' : List ℕ} {k' next : ℕ} (kept : k' ≡ cond (leaf_with b (row_at w q)) (k + 1) k) (stored : s' ≡ cond (leaf_with b (row_at w q)) (set s (length s - (links_at + (k + 1))) q) s) (en : next ≡ get_or s' (links_at + (i - 1)) 0) where
       ek : k' ≡ cond (holding e (row_at w q)) (k + 1) k
-      ek = kept ∙ ap (λ (t : Bool). cond t (k + 1) k) (same_row eb)
+      ek = kept ∙ ap (λ (t : Bool). cond t (k + 1) k) (same_row_lem eb)
 
-      es : s' ≡ cond (holding e (row_at w q)) (set s (length s - (linksAt + (k + 1))) q) s
-      es = stored ∙ ap (λ (t : Bool). cond t (set s (length s - (linksAt + (k + 1))) q) s) (same_row eb)
+      es : s' ≡ cond (holding e (row_at w q)) (set s (length s - (links_at + (k + 1))) q) s
+      es = stored ∙ ap (λ (t : Bool). cond t (set s (length s - (links_at + (k + 1))) q) s) (same_row_lem eb)
 
       link : next ≡ latest (corner w) a (4 * q)
       link =
-          en ∙ rw es (next-link (indexed (holding e (row_at w q))) (omega (arith, x.below)) (x.here more))
+          en ∙ rw es (next_link (indexed (holding e (row_at w q))) (omega (arith, x.below)) (x.here more))
           ∙ ap (latest (corner w) a) (sym slot)
-          ∙ latest-row q ((i - 1) % 4) ((i - 1) % 4) row-there (omega arith) (omega arith) (rw slot (x.here more))
+          ∙ latest_row q ((i - 1) % 4) ((i - 1) % 4) row_there (omega arith) (omega arith) (rw slot (x.here more))
 
       low : next ≤ 4 * q
-      low = omega (arith, link, latest-below (corner w) a (4 * q))
+      low = omega (arith, link, latest_below (corner w) a (4 * q))
 
-      pub walk-less : next < i
-      walk-less = omega (arith, low, more)
+      pub walk_less : next < i
+      walk_less = omega (arith, low, more)
 
-      pub walk-next : Walk w s₀ s' n e a next k'
-      walk-next = rw (ek, es) (record {
+      pub walk_next : Walk w s₀ s' n e a next k'
+      walk_next = rw (ek, es) (record {
         size = sized (holding e (row_at w q));
         index = indexed (holding e (row_at w q));
-        below = omega (arith, low, row-there);
-        here = λ l. (latest-some (corner w) a (4 * q) (next - 1) (omega (arith, link))).1;
-        few = omega (arith, counted (holding e (row_at w q)), low, x.few, more, row-there);
-        patch = listed (holding e (row_at w q)) (ap (holding e) (row_is q row-there)) ∙ sym (rw (← link) at (leap q (n - q) (omega (arith, row-there)) (omega (arith, row-there))));
+        below = omega (arith, low, row_there);
+        here = λ l. (latest_some (corner w) a (4 * q) (next - 1) (omega (arith, link))).1;
+        few = omega (arith, counted (holding e (row_at w q)), low, x.few, more, row_there);
+        patch = listed (holding e (row_at w q)) (ap (holding e) (row_is q row_there)) ∙ sym (rw (← link) at (leap q (n - q) (omega (arith, row_there)) (omega (arith, row_there))));
       })
 
   pub walk_end : {s : List ℕ} {i k : ℕ} → Walk w s₀ s n e a i k → i ≤ 0 → Gathers w n e k s
   walk_end {s} {i} {k} x h =
       let first : behind i ≡ 0 = omega arith in
-      let all : n - behind i ≡ length (rows_of w n) = omega (arith, length-up-to (row_at w) n) in
+      let all : n - behind i ≡ length (rows_of w n) = omega (arith, length_up_to (row_at w) n) in
       record {
         state = record { size = rw x.size g.state.size; index = x.index; few = g.state.few; fits = g.state.fits; low = g.state.low; blank = g.state.blank };
-        patch = x.patch ∙ ap (λ (d : ℕ). holdersFrom (rows_of w n) e d (behind i)) all ∙ ap (holdersFrom (rows_of w n) e (length (rows_of w n))) first;
+        patch = x.patch ∙ ap (λ (d : ℕ). holders_from (rows_of w n) e d (behind i)) all ∙ ap (holders_from (rows_of w n) e (length (rows_of w n))) first;
         size = omega (arith, x.few);
       }
 
-pub ruleset walking = (walk_start, walk-room, walk-fits, walk-less, walk-next, walk_end, rules)
+pub ruleset walking = (walk_start, walk_room, walk_fits, walk_less, walk_next, walk_end, rules)

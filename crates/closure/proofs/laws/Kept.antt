@@ -7,43 +7,43 @@ use lib.ListN.{length, get_or, drop, length-append, get_or-append}
 use Rattle.split.specs.declared.point.Point.{Point}
 use Rattle.tables.specs.declared.layout.Counts.{Counts}
 use Rattle.tables.specs.declared.record.Record.{Record}
-use Rattle.tables.specs.Layout.{noPoint, pointAt, recordAt, row_at}
-use Rattle.tables.specs.Mesh.{Lent, Mesh, meshOf}
-use Rattle.tables.proofs.laws.View.{mesh-row, mesh-record, mesh-point, mesh-points}
+use Rattle.tables.specs.Layout.{no_point, point_at, record_at, row_at}
+use Rattle.tables.specs.Mesh.{Lent, Mesh, mesh_of}
+use Rattle.tables.proofs.laws.View.{mesh_row, mesh_record, mesh_point, mesh_points}
 use Rattle.sound.specs.Sound.{point_of, childless, Sound}
 use Rattle.run.specs.Skeleton.{extended}
 use Rattle.run.proofs.laws.Points.{halfway}
 use Rattle.closure.specs.declared.answer.Refined.TheVariants.{Done}
 use Rattle.closure.specs.Refine.{Refines}
-use Rattle.closure.proofs.laws.Taken.{sound-rows, sound-vertices, taken}
-use Rattle.closure.proofs.laws.Accepted.{accepted-mesh, accepted-grows, accepted-counted}
+use Rattle.closure.proofs.laws.Taken.{sound_rows, sound_vertices, taken}
+use Rattle.closure.proofs.laws.Accepted.{accepted_mesh, accepted_grows, accepted_counted}
 
 -- further midpoints do not move a point
-extended-front : (P : List Point) (rs : List Record) (v : ℕ) → v < length P → get_or (extended P rs) v noPoint ≡ get_or P v noPoint
+extended_front : (P : List Point) (rs : List Record) (v : ℕ) → v < length P → get_or (extended P rs) v no_point ≡ get_or P v no_point
 unfolding extended
-extended-front P [] v h = refl
-extended-front P (r ∷ rs) v h = extended-front (P ++ (halfway P r ∷ [])) rs v (omega (arith, length-append P (halfway P r ∷ []))) ∙ get_or-append P (halfway P r ∷ []) noPoint v h
+extended_front P [] v h = refl
+extended_front P (r ∷ rs) v h = extended_front (P ++ (halfway P r ∷ [])) rs v (omega (arith, length-append P (halfway P r ∷ []))) ∙ get_or-append P (halfway P r ∷ []) no_point v h
 
 -- ---- an accepted call
 
 pub record Kept (t : Lent) (c : Counts) (t' : Lent) : Type 0 where
   pub row : (k : ℕ) → k < c.rows → childless (row_at t'.rows k) ≡ childless (row_at t.rows k)
   pub split : (k : ℕ) → k < c.rows → ((row_at t.rows k).child ≡ 0 → ⊥) → row_at t'.rows k ≡ row_at t.rows k
-  pub vertex : (v : ℕ) → v < c.vertices → recordAt t'.records v ≡ recordAt t.records v
-  pub point : (v : ℕ) → v < c.vertices → pointAt t'.points v ≡ pointAt t.points v
+  pub vertex : (v : ℕ) → v < c.vertices → record_at t'.records v ≡ record_at t.records v
+  pub point : (v : ℕ) → v < c.vertices → point_at t'.points v ≡ point_at t.points v
 
 module _ {t : Lent} {c : Counts} (s : Sound t c) {marks : List ℕ} {d : Counts} {n : ℕ} {t' : Lent} (x : Refines t c marks (Done d n) t') where
-  row-in : (k : ℕ) → k < c.rows → k < d.rows
-  row-in k h = omega (arith, (accepted-counted s x).rows)
+  row_in_both : (k : ℕ) → k < c.rows → k < d.rows
+  row_in_both k h = omega (arith, (accepted_counted s x).rows)
 
-  vertex-in : (v : ℕ) → v < c.vertices → v < d.vertices
-  vertex-in v h = omega (arith, (accepted-counted s x).vertices)
+  vertex_in : (v : ℕ) → v < c.vertices → v < d.vertices
+  vertex_in v h = omega (arith, (accepted_counted s x).vertices)
 
-  pub accepted-kept : Kept t c t'
-  accepted-kept = record {
-    row = λ k h. ap childless (sym (mesh-row t' d k (row-in k h))) ∙ (accepted-grows s x).row k (rw (sound-rows s) h) ∙ ap childless (mesh-row t c k h);
-    split = λ k h b. sym (mesh-row t' d k (row-in k h)) ∙ (accepted-grows s x).split k (rw (sound-rows s) h) (rw (mesh-row t c k h) b) ∙ mesh-row t c k h;
-    vertex = λ v h. sym (mesh-record t' d v (vertex-in v h)) ∙ (accepted-grows s x).record-old v (rw (sound-vertices s) h) ∙ mesh-record t c v h;
-    point = λ v h. sym (mesh-point t' d v (vertex-in v h)) ∙ ap (λ (m : Mesh). point_of m v) (accepted-mesh s x)
-        ∙ extended-front (meshOf t c).points (drop (length (meshOf t c).points) (taken s x).accepts.after.records) v (rw (mesh-points t c) h) ∙ mesh-point t c v h;
+  pub accepted_kept : Kept t c t'
+  accepted_kept = record {
+    row = λ k h. ap childless (sym (mesh_row t' d k (row_in_both k h))) ∙ (accepted_grows s x).row k (rw (sound_rows s) h) ∙ ap childless (mesh_row t c k h);
+    split = λ k h b. sym (mesh_row t' d k (row_in_both k h)) ∙ (accepted_grows s x).split k (rw (sound_rows s) h) (rw (mesh_row t c k h) b) ∙ mesh_row t c k h;
+    vertex = λ v h. sym (mesh_record t' d v (vertex_in v h)) ∙ (accepted_grows s x).record_old v (rw (sound_vertices s) h) ∙ mesh_record t c v h;
+    point = λ v h. sym (mesh_point t' d v (vertex_in v h)) ∙ ap (λ (m : Mesh). point_of m v) (accepted_mesh s x)
+        ∙ extended_front (mesh_of t c).points (drop (length (mesh_of t c).points) (taken s x).accepts.after.records) v (rw (mesh_points t c) h) ∙ mesh_point t c v h;
   }

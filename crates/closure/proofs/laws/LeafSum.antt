@@ -2,13 +2,13 @@
 use mathlib.Core.List.{[]}
 use Prim.Native.Nat.{ℕ, ◌<◌}
 use Rattle.tables.specs.declared.layout.Counts.{Counts}
-use Rattle.tables.specs.Mesh.{Lent, meshOf}
+use Rattle.tables.specs.Mesh.{Lent, mesh_of}
 use Rattle.forest.specs.Element.{el}
-use Rattle.forest.specs.LeafSum.{leavesFrom}
+use Rattle.forest.specs.LeafSum.{leaves_from}
 use Rattle.sound.specs.Sound.{Sound}
-use Rattle.run.specs.Leaves.{splitIn}
-use Rattle.run.proofs.laws.LeafSum.{Summed, table-leaves}
-use Rattle.closure.proofs.laws.Taken.{sound-mesh, sound-ready}
+use Rattle.run.specs.Leaves.{split_in}
+use Rattle.run.proofs.laws.LeafSum.{Summed, table_leaves}
+use Rattle.closure.proofs.laws.Taken.{sound_mesh, sound_ready}
 
-pub sound-leaves : {t : Lent} {c : Counts} (s : Sound t c) (k : ℕ) → k < s.roots → Summed (meshOf t c) s.roots k (leavesFrom 60 (λ q. splitIn (meshOf t c) s.roots (el k q)) [])
-sound-leaves {t} {c} s k h = rw (sound-mesh s) at (table-leaves (meshOf t c).points (sound-ready s) k h)
+pub sound_leaves : {t : Lent} {c : Counts} (s : Sound t c) (k : ℕ) → k < s.roots → Summed (mesh_of t c) s.roots k (leaves_from 60 (λ q. split_in (mesh_of t c) s.roots (el k q)) [])
+sound_leaves {t} {c} s k h = rw (sound_mesh s) at (table_leaves (mesh_of t c).points (sound_ready s) k h)

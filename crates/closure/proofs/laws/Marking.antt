@@ -10,35 +10,35 @@ use borrow.Author.Rules.{rules}
 use Rattle.split.specs.declared.row.Row.{Row}
 use Rattle.tables.specs.declared.layout.Counts.{Counts}
 use Rattle.tables.specs.declared.layout.Size.{Size}
-use Rattle.tables.specs.Layout.{no_row, recordAt, row_at}
-use Rattle.tables.proofs.laws.View.{length-up-to, up-to-at}
+use Rattle.tables.specs.Layout.{no_row, record_at, row_at}
+use Rattle.tables.proofs.laws.View.{length_up_to, up_to_at}
 use Rattle.run.specs.Skeleton.{row_in}
 use Rattle.run.specs.Ready.{Reach}
 use Rattle.run.specs.Ready as ready
 use Rattle.run.specs.Run.{RunAll, StuckAll, Within}
 use Rattle.run.specs.Run as run
-use Rattle.run.proofs.laws.Goals.{Markable, markable-later}
-use Rattle.run.proofs.laws.Reach.{reach-ready, reach-grows, reach-on}
+use Rattle.run.proofs.laws.Goals.{Markable, markable_later}
+use Rattle.run.proofs.laws.Reach.{reach_ready, reach_grows, reach_on}
 use Rattle.closure.specs.declared.step.Step.{Step}
 use Rattle.closure.specs.declared.step.Step.TheVariants.{Done, Full}
 use Rattle.closure.specs.State.{rows_of, seen}
 use Rattle.closure.specs.Refining.{Tables, Sure, Refines}
-use Rattle.closure.proofs.laws.Answers.{done-counts, full-counts, done_full}
+use Rattle.closure.proofs.laws.Answers.{done_counts, full_counts, done_full}
 use Rattle.closure.specs.Marking.{Steady, Fine, Due, AllDue, Passed, Passes, Ended, Failed, Marks, Marking}
 
 -- ---- one mark
 
 -- the counts are those of the lists
-pub within-room : {r w s : List ℕ} {c : Counts} {room : Size} → Tables r w s c room → Within room (seen r w c)
-within-room {r} {w} {s} {c} t = record { vertices = rw (length-up-to (recordAt r) c.vertices) t.vertices-in; rows = rw (length-up-to (row_at w) c.rows) t.rows_in }
+pub within_room : {r w s : List ℕ} {c : Counts} {room : Size} → Tables r w s c room → Within room (seen r w c)
+within_room {r} {w} {s} {c} t = record { vertices = rw (length_up_to (record_at r) c.vertices) t.vertices_in; rows = rw (length_up_to (row_at w) c.rows) t.rows_in }
 
 module _ {r w s : List ℕ} {c : Counts} {room : Size} {q : ℕ} (x : Due r w s c room q) {held : Row} (is : held ≡ row_at w q) where
   row_is : row_in (rows_of w c.rows) q ≡ held
-  row_is = up-to-at (row_at w) c.rows q no_row x.fine.there ∙ sym is
+  row_is = up_to_at (row_at w) c.rows q no_row x.fine.there ∙ sym is
 
-  pub mark-passed : (held.child ≡ 0 → ⊥) → Passes r w c room q (Done c) r w s
-  mark-passed d = record {
-    done = λ a e. subst (Passed (seen r w c) q room r w s) (done-counts c a e) (record { runs = λ rs U p. run.RunAll.passed split p; stuck = λ rs p. run.StuckAll.passed split p; reach = ready.here refl; tables = x.steady.tables });
+  pub mark_passed : (held.child ≡ 0 → ⊥) → Passes r w c room q (Done c) r w s
+  mark_passed d = record {
+    done = λ a e. subst (Passed (seen r w c) q room r w s) (done_counts c a e) (record { runs = λ rs U p. run.RunAll.passed split p; stuck = λ rs p. run.StuckAll.passed split p; reach = ready.here refl; tables = x.steady.tables });
     full = λ a e. done_full c a e;
   }
     where
@@ -49,81 +49,81 @@ module _ {r w s : List ℕ} {c : Counts} {room : Size} {q : ℕ} (x : Due r w s 
     leaf : (row_in (rows_of w c.rows) q).child ≡ 0
     leaf = ap (λ (k : Row). k.child) row_is ∙ l
 
-    pub mark-sure : Sure r w s c room q
-    mark-sure = record {
+    pub mark_sure : Sure r w s c room q
+    mark_sure = record {
       tables = x.steady.tables;
       points = x.steady.points;
       initials = x.steady.initials;
       roots = x.steady.roots;
       ready = x.steady.ready;
       ripe = record {
-        there = rw (length-up-to (row_at w) c.rows) x.fine.there;
+        there = rw (length_up_to (row_at w) c.rows) x.fine.there;
         leaf = leaf;
         shallow = rw (row_is ∙ is) (x.fine.shallow (sym (ap (λ (k : Row). k.child) is) ∙ l));
       };
     }
 
-    pub mark-refined : {o : Step} {r' w' s' : List ℕ} → Refines r w c room q o r' w' s' → Passes r w c room q o r' w' s'
-    mark-refined f = record {
-      done = λ a e. let j = f.done a e in record { runs = λ rs U p. run.RunAll.refined leaf j.run p; stuck = λ rs p. run.StuckAll.refined leaf j.run (within-room j.tables) p; reach = j.reach; tables = j.tables };
+    pub mark_refined : {o : Step} {r' w' s' : List ℕ} → Refines r w c room q o r' w' s' → Passes r w c room q o r' w' s'
+    mark_refined f = record {
+      done = λ a e. let j = f.done a e in record { runs = λ rs U p. run.RunAll.refined leaf j.run p; stuck = λ rs p. run.StuckAll.refined leaf j.run (within_room j.tables) p; reach = j.reach; tables = j.tables };
       full = λ a e. let j = f.full a e in record { stuck = λ rs. run.StuckAll.here leaf j.stuck; reach = j.reach; tables = j.tables };
     }
 
-pub ruleset passing = (mark-passed, mark-sure, mark-refined, rules)
+pub ruleset passing = (mark_passed, mark_sure, mark_refined, rules)
 
 -- ---- all marks
 
-pub marking-start : {r w s : List ℕ} {c : Counts} {room : Size} {marks : List ℕ} → AllDue r w s c room marks → Marking r w s c room marks r w s c 0
-marking-start x = record { within = omega arith; due = x; runs = λ U p. p; stuck = λ p. p; reach = ready.here refl; records-size = refl; rows-size = refl; scratch-size = refl }
+pub marking_start : {r w s : List ℕ} {c : Counts} {room : Size} {marks : List ℕ} → AllDue r w s c room marks → Marking r w s c room marks r w s c 0
+marking_start x = record { within = omega arith; due = x; runs = λ U p. p; stuck = λ p. p; reach = ready.here refl; records_size = refl; rows_size = refl; scratch_size = refl }
 
 -- a row that was fine stays so
-fine-later : (r' w' : List ℕ) (d : Counts) {r w s : List ℕ} {c : Counts} {room : Size} {q : ℕ} → Steady r w s c room → Reach (seen r w c) (seen r' w' d) → Fine w c.rows q → Fine w' d.rows q
-fine-later r' w' d {r} {w} {c = c} {q = q} y x f =
-    let before : Markable (seen r w c) q = record { there = rw (length-up-to (row_at w) c.rows) f.there; shallow = rw (up-to-at (row_at w) c.rows q no_row f.there) f.shallow } in
-    let later = markable-later (reach-grows x y.ready) before in
-    let there : q < d.rows = omega (arith, later.there, length-up-to (row_at w') d.rows) in
-    record { there = there; shallow = rw (← up-to-at (row_at w') d.rows q no_row there) later.shallow }
+fine_later : (r' w' : List ℕ) (d : Counts) {r w s : List ℕ} {c : Counts} {room : Size} {q : ℕ} → Steady r w s c room → Reach (seen r w c) (seen r' w' d) → Fine w c.rows q → Fine w' d.rows q
+fine_later r' w' d {r} {w} {c = c} {q = q} y x f =
+    let before : Markable (seen r w c) q = record { there = rw (length_up_to (row_at w) c.rows) f.there; shallow = rw (up_to_at (row_at w) c.rows q no_row f.there) f.shallow } in
+    let later = markable_later (reach_grows x y.ready) before in
+    let there : q < d.rows = omega (arith, later.there, length_up_to (row_at w') d.rows) in
+    record { there = there; shallow = rw (← up_to_at (row_at w') d.rows q no_row there) later.shallow }
 
 module _ {r₀ w₀ s₀ r w s marks : List ℕ} {c : Counts} {room : Size} {d : Counts} {j : ℕ} (x : Marking r₀ w₀ s₀ c room marks r w s d j) where
   module _ (h : j < length marks) {q : ℕ} (is : q ≡ get_or marks j 0) where
-    pub marking-due : Due r w s d room q
-    marking-due = record { steady = x.due.steady; fine = rw is (x.due.fine j h) }
+    pub marking_due : Due r w s d room q
+    marking_due = record { steady = x.due.steady; fine = rw is (x.due.fine j h) }
 
     next : drop j marks ≡ q ∷ drop (j + 1) marks
     next = drop-cons marks j 0 h ∙ rw (← is, ← add-one j)
 
     module _ {o : Step} {r' w' s' : List ℕ} (f : Passes r w d room q o r' w' s') {y : Counts} where
-      pub marking-full : o ≡ Full y → length r' ≡ length r → length w' ≡ length w → Marks r₀ w₀ c room marks (Full y) r' w' s'
-      marking-full e er ew = let k = f.full y e in record {
-        records-size = er ∙ x.records-size;
-        rows-size = ew ∙ x.rows-size;
+      pub marking_full : o ≡ Full y → length r' ≡ length r → length w' ≡ length w → Marks r₀ w₀ c room marks (Full y) r' w' s'
+      marking_full e er ew = let k = f.full y e in record {
+        records_size = er ∙ x.records_size;
+        rows_size = ew ∙ x.rows_size;
         done = λ a z. done_full a y (sym z);
-        full = λ a z. subst (Failed (seen r₀ w₀ c) marks room r' w' s') (full-counts y a z) (record { stuck = x.stuck (rw next (k.stuck (drop (j + 1) marks))); reach = reach-on x.reach k.reach; tables = k.tables });
+        full = λ a z. subst (Failed (seen r₀ w₀ c) marks room r' w' s') (full_counts y a z) (record { stuck = x.stuck (rw next (k.stuck (drop (j + 1) marks))); reach = reach_on x.reach k.reach; tables = k.tables });
       }
 
-      pub marking-next : o ≡ Done y → length r' ≡ length r → length w' ≡ length w → length s' ≡ length s → Marking r₀ w₀ s₀ c room marks r' w' s' y (j + 1)
-      marking-next e er ew es =
+      pub marking_next : o ≡ Done y → length r' ≡ length r → length w' ≡ length w → length s' ≡ length s → Marking r₀ w₀ s₀ c room marks r' w' s' y (j + 1)
+      marking_next e er ew es =
           let k = f.done y e in
           let z = x.due.steady in
           record {
             within = omega arith;
             due = record {
-              steady = record { tables = k.tables; points = z.points; initials = z.initials; roots = z.roots; ready = reach-ready k.reach z.ready };
-              fine = λ i l. fine-later r' w' y z k.reach (x.due.fine i l);
+              steady = record { tables = k.tables; points = z.points; initials = z.initials; roots = z.roots; ready = reach_ready k.reach z.ready };
+              fine = λ i l. fine_later r' w' y z k.reach (x.due.fine i l);
             };
             runs = λ U p. x.runs U (rw next (k.runs (drop (j + 1) marks) U p));
             stuck = λ p. x.stuck (rw next (k.stuck (drop (j + 1) marks) p));
-            reach = reach-on x.reach k.reach;
-            records-size = er ∙ x.records-size;
-            rows-size = ew ∙ x.rows-size;
-            scratch-size = es ∙ x.scratch-size;
+            reach = reach_on x.reach k.reach;
+            records_size = er ∙ x.records_size;
+            rows_size = ew ∙ x.rows_size;
+            scratch_size = es ∙ x.scratch_size;
           }
 
-  pub marking-done : length marks ≤ j → Marks r₀ w₀ c room marks (Done d) r w s
-  marking-done h = record {
-    records-size = x.records-size;
-    rows-size = x.rows-size;
-    done = λ a e. subst (Ended (seen r₀ w₀ c) marks room r w s) (done-counts d a e) (record { run = x.runs (seen r w d) (rw last (run.RunAll.done refl)); reach = x.reach; tables = x.due.steady.tables });
+  pub marking_done : length marks ≤ j → Marks r₀ w₀ c room marks (Done d) r w s
+  marking_done h = record {
+    records_size = x.records_size;
+    rows_size = x.rows_size;
+    done = λ a e. subst (Ended (seen r₀ w₀ c) marks room r w s) (done_counts d a e) (record { run = x.runs (seen r w d) (rw last (run.RunAll.done refl)); reach = x.reach; tables = x.due.steady.tables });
     full = λ a e. done_full d a e;
   }
     where
@@ -131,13 +131,13 @@ module _ {r₀ w₀ s₀ r w s marks : List ℕ} {c : Counts} {room : Size} {d :
       last = let e : j ≡ length marks = omega (arith, x.within) in rw e (drop-length marks)
 
   -- the tables keep their lengths
-  pub mark-records : {n : ℕ} → n ≡ length r → n ≡ length r₀
-  mark-records e = e ∙ x.records-size
+  pub mark_records : {n : ℕ} → n ≡ length r → n ≡ length r₀
+  mark_records e = e ∙ x.records_size
 
-  pub mark-rows : {n : ℕ} → n ≡ length w → n ≡ length w₀
-  mark-rows e = e ∙ x.rows-size
+  pub mark_rows : {n : ℕ} → n ≡ length w → n ≡ length w₀
+  mark_rows e = e ∙ x.rows_size
 
-  pub mark-scratch : {n : ℕ} → n ≡ length s → n ≡ length s₀
-  mark-scratch e = e ∙ x.scratch-size
+  pub mark_scratch : {n : ℕ} → n ≡ length s → n ≡ length s₀
+  mark_scratch e = e ∙ x.scratch_size
 
-pub ruleset marking = (marking-start, marking-due, marking-full, marking-next, marking-done, mark-records, mark-rows, mark-scratch, rules)
+pub ruleset marking = (marking_start, marking_due, marking_full, marking_next, marking_done, mark_records, mark_rows, mark_scratch, rules)

@@ -6,33 +6,33 @@ use Prim.Native.Nat.{ℕ, ◌*◌, ◌/◌, ◌%◌, ◌<◌}
 use native.Mathlib.Omega.{arith}
 use lib.ListN.{length}
 use lib.Seq.{take-length}
-use Rattle.split.proofs.laws.Places.{le-or-lt}
-use Rattle.tables.specs.Layout.{rowWidth, recordWidth, row_at, recordAt}
+use Rattle.split.proofs.laws.Places.{le_or_lt}
+use Rattle.tables.specs.Layout.{row_width, record_width, row_at, record_at}
 use Rattle.tables.specs.Mesh.{up_to, flat}
-use Rattle.tables.proofs.laws.Table.{Table, at-past, at-put-other, length-put}
+use Rattle.tables.proofs.laws.Table.{Table, at_past, at_put_other, length_put}
 use Rattle.tables.proofs.laws.Rows.{rows, records}
-use Rattle.tables.proofs.laws.View.{flat-up-to}
-use Rattle.sound.proofs.laws.Flat.{up-to-same}
+use Rattle.tables.proofs.laws.View.{flat_up_to}
+use Rattle.sound.proofs.laws.Flat.{up_to_same}
 
 module _ {A B : Type 0} {w : ℕ} {cells : A → List B} {from : List B → ℕ → A} {none : A} {at : List B → ℕ → A} {put : List B → ℕ → A → List B} (t : Table w cells from none at put) where
   -- a thing that is not replaced, wherever it is
   pub put_other : (l : List B) (k : ℕ) (x : A) → k < length l / w → (j : ℕ) → (j ≡ k → ⊥) → at (put l k x) j ≡ at l j
-  put_other l k x h j d = elim (le-or-lt (length l / w) j) [
-    | inr b ↦ at-put-other t l k x h j b d
-    | inl b ↦ at-past t (put l k x) j (rw (length-put t l k x) b) ∙ sym (at-past t l j b)
+  put_other l k x h j d = elim (le_or_lt (length l / w) j) [
+    | inr b ↦ at_put_other t l k x h j b d
+    | inl b ↦ at_past t (put l k x) j (rw (length_put t l k x) b) ∙ sym (at_past t l j b)
   ]
 
   -- the first n things are all that the table has
-  all-flat : (l : List B) (n : ℕ) → length l ≡ w * n → flat cells (up_to (at l) n) ≡ l
-  all-flat l n e = flat-up-to t l n (omega (arith, e)) ∙ rw (← e) (take-length l)
+  all_flat : (l : List B) (n : ℕ) → length l ≡ w * n → flat cells (up_to (at l) n) ≡ l
+  all_flat l n e = flat_up_to t l n (omega (arith, e)) ∙ rw (← e) (take-length l)
 
   -- tables of one length, a multiple of the width, that hold the same are equal
   pub table_same : (l m : List B) (n : ℕ) → length l ≡ w * n → length m ≡ length l → ((k : ℕ) → at m k ≡ at l k) → m ≡ l
   table_same l m n e f h =
-      sym (all-flat m n (f ∙ e)) ∙ ap (flat cells) (up-to-same (at l) n none (at m) (λ k b. h k)) ∙ all-flat l n e
+      sym (all_flat m n (f ∙ e)) ∙ ap (flat cells) (up_to_same (at l) n none (at m) (λ k b. h k)) ∙ all_flat l n e
 
-pub rows_same : (l m : List ℕ) → length l % rowWidth ≡ 0 → length m ≡ length l → ((k : ℕ) → row_at m k ≡ row_at l k) → m ≡ l
-rows_same l m e f h = table_same rows l m (length l / rowWidth) (omega arith) f h
+pub rows_same : (l m : List ℕ) → length l % row_width ≡ 0 → length m ≡ length l → ((k : ℕ) → row_at m k ≡ row_at l k) → m ≡ l
+rows_same l m e f h = table_same rows l m (length l / row_width) (omega arith) f h
 
-pub records-same : (l m : List ℕ) → length l % recordWidth ≡ 0 → length m ≡ length l → ((k : ℕ) → recordAt m k ≡ recordAt l k) → m ≡ l
-records-same l m e f h = table_same records l m (length l / recordWidth) (omega arith) f h
+pub records_same : (l m : List ℕ) → length l % record_width ≡ 0 → length m ≡ length l → ((k : ℕ) → record_at m k ≡ record_at l k) → m ≡ l
+records_same l m e f h = table_same records l m (length l / record_width) (omega arith) f h

@@ -9,24 +9,24 @@ use borrow.Author.Tests.{lt-ltb, eq-eqb, ne_eqb, not-true, not-false}
 use Rattle.split.specs.declared.row.Row.{Row}
 use Rattle.split.specs.declared.row.Ends.{Ends}
 use Rattle.run.specs.Run.{has, holding}
-use Rattle.closure.specs.State.{EndOf, small, large, once, leafWith, otherEnd}
+use Rattle.closure.specs.State.{EndOf, small, large, once, leaf_with, other_end}
 
 -- ---- a vertex of the row
 
-pub once-same : {u v : ℕ} → u ≡ v → 1 ≡ once u v
+pub once_same : {u v : ℕ} → u ≡ v → 1 ≡ once u v
 unfolding once
-once-same {u} {v} e = rw (eq-eqb u v e)
+once_same {u} {v} e = rw (eq-eqb u v e)
 
-pub once-other : {u v : ℕ} → (u ≡ v → ⊥) → 0 ≡ once u v
+pub once_other : {u v : ℕ} → (u ≡ v → ⊥) → 0 ≡ once u v
 unfolding once
-once-other {u} {v} d = rw (ne_eqb u v d)
+once_other {u} {v} d = rw (ne_eqb u v d)
 
-pub ruleset onceTests = (once-same, once-other)
+pub ruleset once_tests = (once_same, once_other)
 
 -- some vertex of the row is v exactly if the sum of the four is not 0
-pub has-sum : (r : Row) (v : ℕ) {a b c d : ℕ} → a ≡ once r.v0 v → b ≡ once r.v1 v → c ≡ once r.v2 v → d ≡ once r.v3 v → ltb 0 (a + b + c + d) ≡ has r v
+pub has_sum : (r : Row) (v : ℕ) {a b c d : ℕ} → a ≡ once r.v0 v → b ≡ once r.v1 v → c ≡ once r.v2 v → d ≡ once r.v3 v → ltb 0 (a + b + c + d) ≡ has r v
 unfolding has once
-has-sum r v ea eb ec ed = rw (ea, eb, ec, ed) (go (eqb r.v0 v) (eqb r.v1 v) (eqb r.v2 v) (eqb r.v3 v))
+has_sum r v ea eb ec ed = rw (ea, eb, ec, ed) (go (eqb r.v0 v) (eqb r.v1 v) (eqb r.v2 v) (eqb r.v3 v))
   where
     go : (p q s t : Bool) → ltb 0 (cond p 1 0 + cond q 1 0 + cond s 1 0 + cond t 1 0) ≡ p || q || s || t
     go true q s t = lt-ltb 0 (1 + cond q 1 0 + cond s 1 0 + cond t 1 0) (omega arith)
@@ -38,33 +38,33 @@ has-sum r v ea eb ec ed = rw (ea, eb, ec, ed) (go (eqb r.v0 v) (eqb r.v1 v) (eqb
 -- ---- a leaf with it
 
 module _ (v : ℕ) {held r : Row} (is : held ≡ r) where
-  pub leaf-split : (held.child ≡ 0 → ⊥) → false ≡ leafWith v r
-  unfolding leafWith
-  leaf-split d = rw (← is, ne_eqb held.child 0 d)
+  pub leaf_split : (held.child ≡ 0 → ⊥) → false ≡ leaf_with v r
+  unfolding leaf_with
+  leaf_split d = rw (← is, ne_eqb held.child 0 d)
 
-  pub leaf-has : held.child ≡ 0 → {b : Bool} → b ≡ has held v → b ≡ leafWith v r
-  unfolding leafWith
-  leaf-has leaf g = g ∙ rw (← is, eq-eqb held.child 0 leaf)
+  pub leaf_has : held.child ≡ 0 → {b : Bool} → b ≡ has held v → b ≡ leaf_with v r
+  unfolding leaf_with
+  leaf_has leaf g = g ∙ rw (← is, eq-eqb held.child 0 leaf)
 
-pub ruleset leafTests = (leaf-split, leaf-has)
+pub ruleset leaf_tests = (leaf_split, leaf_has)
 
 -- ---- the other end of an edge
 
 module _ (e : Ends) {a : ℕ} where
-  pub other-large : e.small ≡ a → e.large ≡ otherEnd e a
-  unfolding otherEnd
-  other-large h = rw (eq-eqb e.small a h)
+  pub other_large : e.small ≡ a → e.large ≡ other_end e a
+  unfolding other_end
+  other_large h = rw (eq-eqb e.small a h)
 
-  pub other-small : (e.small ≡ a → ⊥) → e.small ≡ otherEnd e a
-  unfolding otherEnd
-  other-small d = rw (ne_eqb e.small a d)
+  pub other_small : (e.small ≡ a → ⊥) → e.small ≡ other_end e a
+  unfolding other_end
+  other_small d = rw (ne_eqb e.small a d)
 
-pub ruleset otherTests = (other-large, other-small)
+pub ruleset other_tests = (other_large, other_small)
 
 -- a row with one end is in the patch exactly if it is a leaf with the other
-pub holding-other : {e : Ends} {a : ℕ} (r : Row) → EndOf e a → has r a ≡ true → leafWith (otherEnd e a) r ≡ holding e r
-unfolding holding leafWith
-holding-other {e} {a} r x h = go (ℕ_discrete e.small a) x
+pub holding_other : {e : Ends} {a : ℕ} (r : Row) → EndOf e a → has r a ≡ true → leaf_with (other_end e a) r ≡ holding e r
+unfolding holding leaf_with
+holding_other {e} {a} r x h = go (ℕ_discrete e.small a) x
   where
     with-true : (p q : Bool) → p && q ≡ p && true && q
     with-true true q = refl
@@ -74,10 +74,10 @@ holding-other {e} {a} r x h = go (ℕ_discrete e.small a) x
     true-last true = refl
     true-last false = refl
 
-    go : Dec (e.small ≡ a) → EndOf e a → eqb r.child 0 && has r (otherEnd e a) ≡ eqb r.child 0 && has r e.small && has r e.large
-    go (yes s) y = rw (← other-large e s, s, h) (with-true (eqb r.child 0) (has r e.large))
+    go : Dec (e.small ≡ a) → EndOf e a → eqb r.child 0 && has r (other_end e a) ≡ eqb r.child 0 && has r e.small && has r e.large
+    go (yes s) y = rw (← other_large e s, s, h) (with-true (eqb r.child 0) (has r e.large))
     go (no d) (small s) = absurd (d (sym s))
-    go (no d) (large s) = rw (← other-small e d, ← s, h) (true-last (eqb r.child 0 && has r e.small))
+    go (no d) (large s) = rw (← other_small e d, ← s, h) (true-last (eqb r.child 0 && has r e.small))
 
 -- what a branch on the answer b of a test t leaves
 pub branch_no : {A : Type 0} {b t : Bool} (x y : A) → b ≡ t → not b ≡ true → y ≡ cond t x y

@@ -9,78 +9,78 @@ use lib.Seq.{get_or-set_other, set_out}
 use borrow.Author.Rules.{rules}
 use Rattle.split.specs.declared.row.Row.{Row}
 use Rattle.split.specs.Split.{at}
-use Rattle.split.specs.Row.{cornersOf}
+use Rattle.split.specs.Row.{corners_of}
 use Rattle.chain.specs.Chain.{Indexed, pushed}
-use Rattle.chain.proofs.laws.Pushed.{pushed-length, pushed-beyond, pushed-keyless, pushed-stored}
-use Rattle.chain.proofs.laws.Index.{indexed-push-one}
-use Rattle.opening.proofs.laws.Indexing.{indexed-kept}
-use Rattle.tables.specs.Layout.{mostRows}
-use Rattle.closure.specs.State.{linksAt, bumped, counted, entered, rowPushed}
+use Rattle.chain.proofs.laws.Pushed.{pushed_length, pushed_beyond, pushed_keyless, pushed_stored}
+use Rattle.chain.proofs.laws.Index.{indexed_push_one}
+use Rattle.opening.proofs.laws.Indexing.{indexed_kept}
+use Rattle.tables.specs.Layout.{most_rows}
+use Rattle.closure.specs.State.{links_at, bumped, counted, entered, row_pushed}
 
 -- ---- one use more
 
-pub bump-more : (u : ℕ) → u < 4294967295 → u + 1 ≡ bumped u
-bump-more u h = rw (lt-ltb u 4294967295 h)
+pub bump_more : (u : ℕ) → u < 4294967295 → u + 1 ≡ bumped u
+bump_more u h = rw (lt-ltb u 4294967295 h)
 
-pub bump-last : (u : ℕ) → 4294967295 ≤ u → u ≡ bumped u
-bump-last u h = rw (le-ltb u 4294967295 h)
+pub bump_last : (u : ℕ) → 4294967295 ≤ u → u ≡ bumped u
+bump_last u h = rw (le-ltb u 4294967295 h)
 
-pub ruleset counts = (bump-more, bump-last, rules)
+pub ruleset counts = (bump_more, bump_last, rules)
 
 module _ (s : List ℕ) (v : ℕ) where
-  counted-length : length (counted s v) ≡ length s
+  counted_length : length (counted s v) ≡ length s
   unfolding counted
-  counted-length = length-set s (length s - linksAt + v) _
+  counted_length = length-set s (length s - links_at + v) _
 
   -- a place of the index or of the patch
-  counted-other : (j : ℕ) → linksAt + j < length s → get_or (counted s v) j 0 ≡ get_or s j 0
+  counted_other : (j : ℕ) → links_at + j < length s → get_or (counted s v) j 0 ≡ get_or s j 0
   unfolding counted
-  counted-other j h = get_or-set_other s (length s - linksAt + v) j _ 0 (λ q. omega arith)
+  counted_other j h = get_or-set_other s (length s - links_at + v) j _ 0 (λ q. omega arith)
 
 -- ---- one slot more
 
 module _ (s : List ℕ) (i v : ℕ) where
-  pub entered-length : length (entered s i v) ≡ length s
+  pub entered_length : length (entered s i v) ≡ length s
   unfolding entered
-  entered-length = counted-length (pushed s linksAt i v) v ∙ pushed-length s linksAt i v
+  entered_length = counted_length (pushed s links_at i v) v ∙ pushed_length s links_at i v
 
   -- the patch stays
-  pub entered-between : (j : ℕ) → linksAt + i < j → linksAt + j < length s → get_or (entered s i v) j 0 ≡ get_or s j 0
+  pub entered_between : (j : ℕ) → links_at + i < j → links_at + j < length s → get_or (entered s i v) j 0 ≡ get_or s j 0
   unfolding entered
-  entered-between j l h = counted-other (pushed s linksAt i v) v j (rw (pushed-length s linksAt i v) h) ∙ pushed-beyond s linksAt i v j l
+  entered_between j l h = counted_other (pushed s links_at i v) v j (rw (pushed_length s links_at i v) h) ∙ pushed_beyond s links_at i v j l
 
 -- a slot with the key v is in the index then
-pub entered-indexed : {key : ℕ → ℕ} {i v : ℕ} {s : List ℕ} → Indexed key i linksAt s → key i ≡ v → v < linksAt → 2 * linksAt + i < length s → i < 4 * mostRows → Indexed key (i + 1) linksAt (entered s i v)
+pub entered_indexed : {key : ℕ → ℕ} {i v : ℕ} {s : List ℕ} → Indexed key i links_at s → key i ≡ v → v < links_at → 2 * links_at + i < length s → i < 4 * most_rows → Indexed key (i + 1) links_at (entered s i v)
 unfolding entered
-entered-indexed {key} {i} {v} {s} x e k r m =
-    indexed-kept (counted-length (pushed s linksAt i v) v) (λ (j : ℕ) (h : j < linksAt + (i + 1)). counted-other (pushed s linksAt i v) v j (rw (pushed-length s linksAt i v) (omega (arith, h, r))))
-    (rw e at (indexed-push-one x (rw e k) (omega arith) (omega arith)))
+entered_indexed {key} {i} {v} {s} x e k r m =
+    indexed_kept (counted_length (pushed s links_at i v) v) (λ (j : ℕ) (h : j < links_at + (i + 1)). counted_other (pushed s links_at i v) v j (rw (pushed_length s links_at i v) (omega (arith, h, r))))
+    (rw e at (indexed_push_one x (rw e k) (omega arith) (omega arith)))
 
 -- ---- what the code does
 
-pub link-stored : (s : List ℕ) (i k : ℕ) → k < linksAt → i < 4 * mostRows → linksAt + i < length s → set (set s (linksAt + i) (get_or s k 0)) k (i + 1) ≡ pushed s linksAt i k
-link-stored s i k h m r = sym (pushed-stored s linksAt i k h r (omega arith))
+pub link_stored : (s : List ℕ) (i k : ℕ) → k < links_at → i < 4 * most_rows → links_at + i < length s → set (set s (links_at + i) (get_or s k 0)) k (i + 1) ≡ pushed s links_at i k
+link_stored s i k h m r = sym (pushed_stored s links_at i k h r (omega arith))
 
-pub count-one : (s : List ℕ) (k : ℕ) {u : ℕ} → u ≡ bumped (get_or s (length s - linksAt + k) 0) → set s (length s - linksAt + k) u ≡ counted s k
+pub count_one : (s : List ℕ) (k : ℕ) {u : ℕ} → u ≡ bumped (get_or s (length s - links_at + k) 0) → set s (length s - links_at + k) u ≡ counted s k
 unfolding counted
-count-one s k e = rw e
+count_one s k e = rw e
 
-module _ (s : List ℕ) (i : ℕ) {v k : ℕ} (e : k ≡ v) (r : 2 * linksAt + i < length s) where
-  pub enter-none : linksAt ≤ k → s ≡ entered s i v
+module _ (s : List ℕ) (i : ℕ) {v k : ℕ} (e : k ≡ v) (r : 2 * links_at + i < length s) where
+  pub enter_none : links_at ≤ k → s ≡ entered s i v
   unfolding entered counted
-  enter-none h = rw (pushed-keyless s linksAt i v (rw e at h)) (sym (set_out s (length s - linksAt + v) _ (omega (arith, e, h))))
+  enter_none h = rw (pushed_keyless s links_at i v (rw e at h)) (sym (set_out s (length s - links_at + v) _ (omega (arith, e, h))))
 
-pub enter_one : (s : List ℕ) (i : ℕ) {v k : ℕ} {a b : List ℕ} → k ≡ v → a ≡ pushed s linksAt i k → b ≡ counted a k → b ≡ entered s i v
+pub enter_one : (s : List ℕ) (i : ℕ) {v k : ℕ} {a b : List ℕ} → k ≡ v → a ≡ pushed s links_at i k → b ≡ counted a k → b ≡ entered s i v
 unfolding entered
 enter_one s i e p q = q ∙ rw (p, e)
 
-pub ruleset entering = (enter-none, enter_one, rules)
+pub ruleset entering = (enter_none, enter_one, rules)
 
 -- ---- a row
 
-pub row_pushed : (s : List ℕ) (n : ℕ) (r : Row) {a b c d : List ℕ} → a ≡ entered s (4 * n) r.v0 → b ≡ entered a (4 * n + 1) r.v1 → c ≡ entered b (4 * n + 2) r.v2 → d ≡ entered c (4 * n + 3) r.v3 → d ≡ rowPushed s n r
-unfolding rowPushed
-row_pushed s n r ea eb ec ed = ed ∙ rw (ec, eb, ea)
+pub row_pushed_lem : (s : List ℕ) (n : ℕ) (r : Row) {a b c d : List ℕ} → a ≡ entered s (4 * n) r.v0 → b ≡ entered a (4 * n + 1) r.v1 → c ≡ entered b (4 * n + 2) r.v2 → d ≡ entered c (4 * n + 3) r.v3 → d ≡ row_pushed s n r
+unfolding row_pushed
+row_pushed_lem s n r ea eb ec ed = ed ∙ rw (ec, eb, ea)
 
 module _ (s : List ℕ) (n : ℕ) (r : Row) where
   abbrev first : List ℕ
@@ -92,34 +92,34 @@ module _ (s : List ℕ) (n : ℕ) (r : Row) where
   abbrev third : List ℕ
   third = entered second (4 * n + 2) r.v2
 
-  second-length : length second ≡ length s
-  second-length = entered-length first (4 * n + 1) r.v1 ∙ entered-length s (4 * n) r.v0
+  second_length : length second ≡ length s
+  second_length = entered_length first (4 * n + 1) r.v1 ∙ entered_length s (4 * n) r.v0
 
-  third-length : length third ≡ length s
-  third-length = entered-length second (4 * n + 2) r.v2 ∙ second-length
+  third_length : length third ≡ length s
+  third_length = entered_length second (4 * n + 2) r.v2 ∙ second_length
 
-  pub rowPushed-length : length (rowPushed s n r) ≡ length s
-  unfolding rowPushed
-  rowPushed-length = entered-length third (4 * n + 3) r.v3 ∙ third-length
+  pub row_pushed_length : length (row_pushed s n r) ≡ length s
+  unfolding row_pushed
+  row_pushed_length = entered_length third (4 * n + 3) r.v3 ∙ third_length
 
   -- what stands between links and uses
-  pub rowPushed-between : {m : ℕ} → length s ≡ m → (j : ℕ) → linksAt + 4 * (n + 1) ≤ j → linksAt + j < m → get_or (rowPushed s n r) j 0 ≡ get_or s j 0
-  unfolding rowPushed
-  rowPushed-between e j l h =
-      entered-between third (4 * n + 3) r.v3 j (omega arith) (rw (third-length, e) h)
-      ∙ entered-between second (4 * n + 2) r.v2 j (omega arith) (rw (second-length, e) h)
-      ∙ entered-between first (4 * n + 1) r.v1 j (omega arith) (rw (entered-length s (4 * n) r.v0, e) h)
-      ∙ entered-between s (4 * n) r.v0 j (omega arith) (rw e h)
+  pub row_pushed_between : {m : ℕ} → length s ≡ m → (j : ℕ) → links_at + 4 * (n + 1) ≤ j → links_at + j < m → get_or (row_pushed s n r) j 0 ≡ get_or s j 0
+  unfolding row_pushed
+  row_pushed_between e j l h =
+      entered_between third (4 * n + 3) r.v3 j (omega arith) (rw (third_length, e) h)
+      ∙ entered_between second (4 * n + 2) r.v2 j (omega arith) (rw (second_length, e) h)
+      ∙ entered_between first (4 * n + 1) r.v1 j (omega arith) (rw (entered_length s (4 * n) r.v0, e) h)
+      ∙ entered_between s (4 * n) r.v0 j (omega arith) (rw e h)
 
   -- its corners are in the index
-  pub rowPushed-indexed : {key : ℕ → ℕ} → ((q : ℕ) → q ≤ 3 → key (4 * n + q) ≡ at (cornersOf r) q) → ((q : ℕ) → q ≤ 3 → at (cornersOf r) q < linksAt) → 2 * linksAt + 4 * n + 3 < length s → n < mostRows → Indexed key (4 * n) linksAt s → Indexed key (4 * (n + 1)) linksAt (rowPushed s n r)
-  unfolding rowPushed
-  rowPushed-indexed {key} is low room few i =
+  pub row_pushed_indexed : {key : ℕ → ℕ} → ((q : ℕ) → q ≤ 3 → key (4 * n + q) ≡ at (corners_of r) q) → ((q : ℕ) → q ≤ 3 → at (corners_of r) q < links_at) → 2 * links_at + 4 * n + 3 < length s → n < most_rows → Indexed key (4 * n) links_at s → Indexed key (4 * (n + 1)) links_at (row_pushed s n r)
+  unfolding row_pushed
+  row_pushed_indexed {key} is low room few i =
       let zero : 4 * n + 0 ≡ 4 * n = omega arith in
       let one_more : 4 * n + 1 + 1 ≡ 4 * n + 2 = omega arith in
       let two-more : 4 * n + 2 + 1 ≡ 4 * n + 3 = omega arith in
       let all : 4 * n + 3 + 1 ≡ 4 * (n + 1) = omega arith in
-      let a : Indexed key (4 * n + 1) linksAt first = entered-indexed i (ap key (sym zero) ∙ is 0 (omega arith)) (low 0 (omega arith)) (omega arith) (omega arith) in
-      let b : Indexed key (4 * n + 2) linksAt second = rw one_more at (entered-indexed a (is 1 (omega arith)) (low 1 (omega arith)) (omega (arith, entered-length s (4 * n) r.v0)) (omega arith)) in
-      let c : Indexed key (4 * n + 3) linksAt third = rw two-more at (entered-indexed b (is 2 (omega arith)) (low 2 (omega arith)) (omega (arith, second-length)) (omega arith)) in
-      rw all at (entered-indexed c (is 3 (omega arith)) (low 3 (omega arith)) (omega (arith, third-length)) (omega arith))
+      let a : Indexed key (4 * n + 1) links_at first = entered_indexed i (ap key (sym zero) ∙ is 0 (omega arith)) (low 0 (omega arith)) (omega arith) (omega arith) in
+      let b : Indexed key (4 * n + 2) links_at second = rw one_more at (entered_indexed a (is 1 (omega arith)) (low 1 (omega arith)) (omega (arith, entered_length s (4 * n) r.v0)) (omega arith)) in
+      let c : Indexed key (4 * n + 3) links_at third = rw two-more at (entered_indexed b (is 2 (omega arith)) (low 2 (omega arith)) (omega (arith, second_length)) (omega arith)) in
+      rw all at (entered_indexed c (is 3 (omega arith)) (low 3 (omega arith)) (omega (arith, third_length)) (omega arith))

@@ -1,15 +1,15 @@
 use mathlib.Core.Path.{refl}
-use Rattle.opening.proofs.laws.Indexing.{zeros-count}
-use Rattle.closure.proofs.laws.Call.{spacious-small, spacious-middle, spacious-large}
+use Rattle.opening.proofs.laws.Indexing.{zeros_count}
+use Rattle.closure.proofs.laws.Call.{spacious_small, spacious_middle, spacious_large}
 use borrow.Author.Rules.{rules}
 use Rattle.closure.proofs.refine.Statement.{statement}
 use Rattle.closure.proofs.refine.Tie as tie
 
 slice-aggregate-refine-in : tie.Need-slice-aggregate-refine-in
-slice-aggregate-refine-in c = zeros-count 60000
+slice-aggregate-refine-in c = zeros_count 60000
 
 refine-in-requires : tie.Need-refine-in-requires
-refine-in-requires c κs = spacious-small _ 60000 refl c.before.before.before.before.if1.true
+refine-in-requires c κs = spacious_small _ 60000 refl c.before.before.before.before.if1.true
 
 same_length : tie.Need-same-length
 same_length c = c.before.before.before.before.before.before.before.refine-in.auto.0
@@ -24,10 +24,10 @@ returns : tie.Need-returns
 returns c = c.before.before.before.before.before.before.before.refine-in.ensures
 
 slice-aggregate-refine-in-2 : tie.Need-slice-aggregate-refine-in-2
-slice-aggregate-refine-in-2 c = zeros-count 100000
+slice-aggregate-refine-in-2 c = zeros_count 100000
 
 refine-in-requires-2 : tie.Need-refine-in-requires-2
-refine-in-requires-2 c κs = spacious-middle _ 100000 refl c.before.before.before.before.if2.true
+refine-in-requires-2 c κs = spacious_middle _ 100000 refl c.before.before.before.before.if2.true
 
 same-length-4 : tie.Need-same-length-4
 same-length-4 c = c.before.before.before.before.before.before.before.refine-in2.auto.0
@@ -42,10 +42,10 @@ returns-2 : tie.Need-returns-2
 returns-2 c = c.before.before.before.before.before.before.before.refine-in2.ensures
 
 slice-aggregate-refine-in-3 : tie.Need-slice-aggregate-refine-in-3
-slice-aggregate-refine-in-3 c = zeros-count 540000
+slice-aggregate-refine-in-3 c = zeros_count 540000
 
 refine-in-requires-3 : tie.Need-refine-in-requires-3
-refine-in-requires-3 c κs = spacious-large _ 540000 refl
+refine-in-requires-3 c κs = spacious_large _ 540000 refl
 
 same-length-7 : tie.Need-same-length-7
 same-length-7 c = c.before.before.before.before.before.before.before.refine-in3.auto.0

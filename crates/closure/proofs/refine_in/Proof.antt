@@ -1,4 +1,4 @@
-use Rattle.closure.proofs.laws.Call.{refine-unsound, refine-sound, wholly}
+use Rattle.closure.proofs.laws.Call.{refine_unsound, refine_sound, wholly}
 use borrow.Author.Rules.{rules}
 use Rattle.closure.proofs.refine_in.Statement.{statement}
 use Rattle.closure.proofs.refine_in.Tie as tie
@@ -19,7 +19,7 @@ same-length-4 : tie.Need-same-length-4
 same-length-4 c = search rules
 
 returns : tie.Need-returns
-returns c = refine-unsound c.before.before.before.before.before.before.before.before.before.before.before.before.before.requires c.before.before.before.check-in.ensures c.if1.true
+returns c = refine_unsound c.before.before.before.before.before.before.before.before.before.before.before.before.before.requires c.before.before.before.check-in.ensures c.if1.true
 
 refine-sound-requires : tie.Need-refine-sound-requires
 refine-sound-requires c κs = search wholly
@@ -37,7 +37,7 @@ same-length-8 : tie.Need-same-length-8
 same-length-8 c = search rules
 
 returns-2 : tie.Need-returns-2
-returns-2 c = refine-sound c.before.before.before.before.before.before.before.before.before.before.before.before.before.before.before.before.before.before.before.before.before.before.before.before.before.before.requires c.before.before.before.before.before.before.before.before.before.before.before.before.before.before.before.before.check-in.ensures c.before.before.before.before.before.before.before.before.before.before.before.before.before.if1.false c.before.before.before.before.before.before.before.before.refine-sound.ensures
+returns-2 c = refine_sound c.before.before.before.before.before.before.before.before.before.before.before.before.before.before.before.before.before.before.before.before.before.before.before.before.before.before.requires c.before.before.before.before.before.before.before.before.before.before.before.before.before.before.before.before.check-in.ensures c.before.before.before.before.before.before.before.before.before.before.before.before.before.if1.false c.before.before.before.before.before.before.before.before.refine_sound.ensures
 
 pub refine-in-spec : {M : Type 1} → statement M
 refine-in-spec =

@@ -6,15 +6,15 @@ use native.Mathlib.Decide.{ℕ_discrete}
 use native.Mathlib.Omega.{arith}
 use Rattle.split.specs.declared.row.Row.{Row}
 use Rattle.split.specs.Split.{Tag, Side, left, right, number, at, far, lacked, Holds}
-use Rattle.split.specs.Row.{cornersOf, tag_of, edge_of, ends}
-use Rattle.split.proofs.laws.Tags.{tag-range}
-use Rattle.split.proofs.laws.Ends.{ends-rising, ends-commute}
+use Rattle.split.specs.Row.{corners_of, tag_of, edge_of, ends}
+use Rattle.split.proofs.laws.Tags.{tag_range}
+use Rattle.split.proofs.laws.Ends.{ends_rising, ends_commute}
 use Rattle.split.proofs.laws.Children.{far_at, kept}
 use Rattle.tables.specs.Mesh.{Mesh}
-use Rattle.sound.specs.Sound.{vertices, rows, recordOf, row_of, place, Grown, Conforming}
-use Rattle.sound.specs.Follows.{splitVertex}
-use Rattle.sound.proofs.laws.Offspring.{place-below}
-use Rattle.sound.proofs.laws.Halves.{half, half-corners, holds_same, one-middle, held-split}
+use Rattle.sound.specs.Sound.{vertices, rows, record_of, row_of, place, Grown, Conforming}
+use Rattle.sound.specs.Follows.{split_vertex}
+use Rattle.sound.proofs.laws.Offspring.{place_below}
+use Rattle.sound.proofs.laws.Halves.{half, half_corners, holds_same, one_middle, held_split}
 use Rattle.coarsen_theory.specs.Free.{LeafNow, childless, merged, Free}
 
 -- two places of a row: one child has what stands at both, or they are the ends of its edge
@@ -29,52 +29,52 @@ pairing g p q = go (ℕ_discrete p (number g)) (ℕ_discrete q (number g)) (ℕ_
     go : Dec (p ≡ number g) → Dec (q ≡ number g) → Dec (p ≡ 0) → Dec (q ≡ 0) → Pairing g p q
     go (no a) (no b) c d = together left a b
     go (yes a) b c (yes d) = turned a d
-    go (yes a) b c (no d) = together right (λ z. omega (arith, tag-range g)) d
+    go (yes a) b c (no d) = together right (λ z. omega (arith, tag_range g)) d
     go (no a) (yes b) (yes c) d = edge c b
-    go (no a) (yes b) (no c) d = together right c (λ z. omega (arith, tag-range g))
+    go (no a) (yes b) (no c) d = together right c (λ z. omega (arith, tag_range g))
 
 -- a row's edge by its two ends
-edge-is : (r : Row) (x y : ℕ) → at (cornersOf r) 0 ≡ x → at (cornersOf r) (number (tag_of r)) ≡ y → edge_of r ≡ ends x y
+edge_is : (r : Row) (x y : ℕ) → at (corners_of r) 0 ≡ x → at (corners_of r) (number (tag_of r)) ≡ y → edge_of r ≡ ends x y
 unfolding edge_of
-edge-is r x y a b = ap (λ (z : ℕ). ends z (far (tag_of r) (cornersOf r))) a ∙ ap (λ (z : ℕ). ends x z) (sym (far_at (cornersOf r) (tag_of r)) ∙ b)
+edge_is r x y a b = ap (λ (z : ℕ). ends z (far (tag_of r) (corners_of r))) a ∙ ap (λ (z : ℕ). ends x z) (sym (far_at (corners_of r) (tag_of r)) ∙ b)
 
 module _ {m : Mesh} {i t : ℕ} (g : Grown m i t) (o : Conforming m i) {gone : ℕ → Bool} (f : Free m i gone) (w : ℕ) (k : i ≤ w) (l : w < vertices m) (stay : gone w ≡ false) where
   abbrev x : ℕ
-  x = (recordOf m w).first
+  x = (record_of m w).first
 
   abbrev y : ℕ
-  y = (recordOf m w).second
+  y = (record_of m w).second
 
   -- a row whose edge has w as its midpoint is split at it
-  not-edge : (r : ℕ) → r < rows m → ((row_of m r).child ≡ 0 → ⊥) → gone (splitVertex m r) ≡ true → edge_of (row_of m r) ≡ ends x y → ⊥
-  not-edge r h s e p =
-      let z = one-middle g w (splitVertex m r) (record { midpoint = k; there = l; ends = sym (ends-rising (omega (arith, (g.midpoint w k l).rising))) ∙ sym p }) (half g r h s left).records in
+  not_edge : (r : ℕ) → r < rows m → ((row_of m r).child ≡ 0 → ⊥) → gone (split_vertex m r) ≡ true → edge_of (row_of m r) ≡ ends x y → ⊥
+  not_edge r h s e p =
+      let z = one_middle g w (split_vertex m r) (record { midpoint = k; there = l; ends = sym (ends_rising (omega (arith, (g.midpoint w k l).rising))) ∙ sym p }) (half g r h s left).records in
       true≢false (sym e ∙ ap gone (sym z) ∙ stay)
 
-  unheld-from : (n r : ℕ) → rows m ≤ r + n → r < rows m → LeafNow m gone r → Holds 3 (cornersOf (row_of m r)) x → Holds 3 (cornersOf (row_of m r)) y → ⊥
-  unheld-from zero r b h q a c = omega arith
-  unheld-from (suc n) r b h (childless e) a c = o.leaf r w h e k l a c
-  unheld-from (suc n) r b h (merged s e) a c = go (pairing (tag_of (row_of m r)) a.place c.place) (unheld-from n)
+  unheld_from : (n r : ℕ) → rows m ≤ r + n → r < rows m → LeafNow m gone r → Holds 3 (corners_of (row_of m r)) x → Holds 3 (corners_of (row_of m r)) y → ⊥
+  unheld_from zero r b h q a c = omega arith
+  unheld_from (suc n) r b h (childless e) a c = o.leaf r w h e k l a c
+  unheld_from (suc n) r b h (merged s e) a c = go (pairing (tag_of (row_of m r)) a.place c.place) (unheld_from n)
     where
-      below : (d : Side) {z : ℕ} (u : Holds 3 (cornersOf (row_of m r)) z) → (u.place ≡ lacked d (tag_of (row_of m r)) → ⊥) → Holds 3 (cornersOf (row_of m (place d (row_of m r).child))) z
+      below : (d : Side) {z : ℕ} (u : Holds 3 (corners_of (row_of m r)) z) → (u.place ≡ lacked d (tag_of (row_of m r)) → ⊥) → Holds 3 (corners_of (row_of m (place d (row_of m r).child))) z
       below d u p =
-          let v = kept 3 (cornersOf (row_of m r)) (splitVertex m r) d (tag_of (row_of m r)) (tag-range (tag_of (row_of m r))).1 (omega arith) u.place u.inside p in
-          holds_same (half-corners (half g r h s d)) (record { place = v.place; inside = v.inside; is = v.is ∙ u.is })
+          let v = kept 3 (corners_of (row_of m r)) (split_vertex m r) d (tag_of (row_of m r)) (tag_range (tag_of (row_of m r))).1 (omega arith) u.place u.inside p in
+          holds_same (half_corners (half g r h s d)) (record { place = v.place; inside = v.inside; is = v.is ∙ u.is })
 
       later : (d : Side) → r < place d (row_of m r).child
       later left = (g.parent r h s).later
       later right = omega (arith, (g.parent r h s).later)
 
       go : Pairing (tag_of (row_of m r)) a.place c.place
-          → ((q : ℕ) → rows m ≤ q + n → q < rows m → LeafNow m gone q → Holds 3 (cornersOf (row_of m q)) x → Holds 3 (cornersOf (row_of m q)) y → ⊥) → ⊥
+          → ((q : ℕ) → rows m ≤ q + n → q < rows m → LeafNow m gone q → Holds 3 (corners_of (row_of m q)) x → Holds 3 (corners_of (row_of m q)) y → ⊥) → ⊥
       go (together d p q) next =
-          let j = (place-below g r h s d).there in
-          next (place d (row_of m r).child) (omega (arith, later d)) j (f.leaf (place d (row_of m r).child) (splitVertex m r) j (held-split g r h s d) e) (below d a p) (below d c q)
-      go (edge p q) next = not-edge r h s e (edge-is (row_of m r) x y (ap (at (cornersOf (row_of m r))) (sym p) ∙ a.is) (ap (at (cornersOf (row_of m r))) (sym q) ∙ c.is))
+          let j = (place_below g r h s d).there in
+          next (place d (row_of m r).child) (omega (arith, later d)) j (f.leaf (place d (row_of m r).child) (split_vertex m r) j (held_split g r h s d) e) (below d a p) (below d c q)
+      go (edge p q) next = not_edge r h s e (edge_is (row_of m r) x y (ap (at (corners_of (row_of m r))) (sym p) ∙ a.is) (ap (at (corners_of (row_of m r))) (sym q) ∙ c.is))
       go (turned p q) next =
-          not-edge r h s e
-          (edge-is (row_of m r) y x (ap (at (cornersOf (row_of m r))) (sym q) ∙ c.is) (ap (at (cornersOf (row_of m r))) (sym p) ∙ a.is) ∙ ends-commute y x)
+          not_edge r h s e
+          (edge_is (row_of m r) y x (ap (at (corners_of (row_of m r))) (sym q) ∙ c.is) (ap (at (corners_of (row_of m r))) (sym p) ∙ a.is) ∙ ends_commute y x)
 
   -- no row that is a leaf now holds both parents of w (01, "Sound tables", clause 7)
-  pub unheld : (r : ℕ) → r < rows m → LeafNow m gone r → Holds 3 (cornersOf (row_of m r)) x → Holds 3 (cornersOf (row_of m r)) y → ⊥
-  unheld r h = unheld-from (rows m) r (omega arith) h
+  pub unheld : (r : ℕ) → r < rows m → LeafNow m gone r → Holds 3 (corners_of (row_of m r)) x → Holds 3 (corners_of (row_of m r)) y → ⊥
+  unheld r h = unheld_from (rows m) r (omega arith) h

@@ -6,13 +6,13 @@ use Rattle.split.specs.declared.point.Point.{Point}
 use Rattle.forest.specs.Element.{Forest, Element}
 use Rattle.run.specs.Skeleton.{Skeleton, meshed}
 use Rattle.run.specs.Ready.{Ready}
-use Rattle.run.specs.Demand.{markedElements}
+use Rattle.run.specs.Demand.{marked_elements}
 use Rattle.run.proofs.laws.Goals.{AllMarkable}
-use Rattle.run.proofs.laws.Calls.{After, after-needed}
+use Rattle.run.proofs.laws.Calls.{After, after_needed}
 use Rattle.completion.specs.Completion.{Completed}
-use Rattle.completion.proofs.laws.Demanded.{completed-finished}
+use Rattle.completion.proofs.laws.Demanded.{completed_finished}
 
 -- one call of the second engine more
-pub after-completed : (P : List Point) (i t : ℕ) {S S' : Skeleton} {rs : List ℕ} → Completed S rs S' → Ready P i t S → length S'.records < 4294967295 → AllMarkable S rs
-    → {F : Forest} {B : Element → Type 0} {calls : List (List Element)} → After (meshed P S) t F B calls → After (meshed P S') t F B (markedElements (meshed P S) t rs ∷ calls)
-after-completed P i t p y few k a = let w = completed-finished P i t p y few k in after-needed a w.grows.forest w.exactly
+pub after_completed : (P : List Point) (i t : ℕ) {S S' : Skeleton} {rs : List ℕ} → Completed S rs S' → Ready P i t S → length S'.records < 4294967295 → AllMarkable S rs
+    → {F : Forest} {B : Element → Type 0} {calls : List (List Element)} → After (meshed P S) t F B calls → After (meshed P S') t F B (marked_elements (meshed P S) t rs ∷ calls)
+after_completed P i t p y few k a = let w = completed_finished P i t p y few k in after_needed a w.grows.forest w.exactly

@@ -7,17 +7,17 @@ use native.Mathlib.Omega.{arith}
 use lib.ListN.{length}
 use Rattle.split.specs.declared.point.Point.{Point}
 use Rattle.forest.specs.Element.{Element}
-use Rattle.forest.proofs.Forced.{forced-closed}
-use Rattle.sound.specs.Forest.{forestOf, SplitOf}
+use Rattle.forest.proofs.Forced.{forced_closed}
+use Rattle.sound.specs.Forest.{forest_of, SplitOf}
 use Rattle.run.specs.Skeleton.{Skeleton, row_in, meshed}
 use Rattle.run.specs.Ready.{Ready}
 use Rattle.run.specs.Demand.{Needed}
-use Rattle.run.proofs.laws.Grows.{Grows, grows-on}
-use Rattle.run.proofs.laws.Goals.{AllMarkable, needed-split, needed-mark, needed-exactly}
-use Rattle.run.proofs.laws.Sizes.{fewer-rows, fewer-vertices}
+use Rattle.run.proofs.laws.Grows.{Grows, grows_on}
+use Rattle.run.proofs.laws.Goals.{AllMarkable, needed_split, needed_mark, needed_exactly}
+use Rattle.run.proofs.laws.Sizes.{fewer_rows, fewer_vertices}
 use Rattle.run.proofs.laws.Single.{growing}
-use Rattle.completion.specs.Completion.{splitMarks, Completed}
-use Rattle.completion.proofs.laws.Steps.{MarksSplit, marks-lead, Looped, loop-lead, loop-records}
+use Rattle.completion.specs.Completion.{split_marks, Completed}
+use Rattle.completion.proofs.laws.Steps.{MarksSplit, marks_lead, Looped, loop_lead, loop_records}
 
 -- what a call that is accepted leads to
 pub record Finished (P : List Point) (i t : ℕ) (S : Skeleton) (rs : List ℕ) (S' : Skeleton) : Type 0 where
@@ -30,24 +30,24 @@ module _ (P : List Point) (i t : ℕ) {S S' : Skeleton} {rs : List ℕ} (p : Com
   abbrev Z : Element → Type 0
   Z = Needed (meshed P S) t rs
 
-  after-marks : MarksSplit P i t (Needed (meshed P S) t rs) S rs (splitMarks S rs)
-  after-marks = marks-lead P i t Z rs (growing y) (omega (arith, few, loop-records p.loop)) k (needed-split (meshed P S) t rs) (needed-mark (meshed P S) t rs)
+  after_marks : MarksSplit P i t (Needed (meshed P S) t rs) S rs (split_marks S rs)
+  after_marks = marks_lead P i t Z rs (growing y) (omega (arith, few, loop_records p.loop)) k (needed_split (meshed P S) t rs) (needed_mark (meshed P S) t rs)
 
-  after-loop : Looped P i t (Needed (meshed P S) t rs) (splitMarks S rs) S'
-  after-loop = let w = after-marks.went in loop-lead P i t Z p.loop w.growing few (rw w.grows.forest forced-closed) w.inside
+  after_loop : Looped P i t (Needed (meshed P S) t rs) (split_marks S rs) S'
+  after_loop = let w = after_marks.went in loop_lead P i t Z p.loop w.growing few (rw w.grows.forest forced_closed) w.inside
 
   -- a marked row stays split
-  still-split : (r : ℕ) → Memᴰ r rs → (row_in S'.rows r).child ≡ 0 → ⊥
-  still-split r j =
-      let a = after-marks in
-      let same = after-loop.went.grows.split r (omega (arith, (k r j).there, a.went.grows.more_rows)) (a.split r j) in
+  still_split : (r : ℕ) → Memᴰ r rs → (row_in S'.rows r).child ≡ 0 → ⊥
+  still_split r j =
+      let a = after_marks in
+      let same = after_loop.went.grows.split r (omega (arith, (k r j).there, a.went.grows.more_rows)) (a.split r j) in
       rw same (a.split r j)
 
-  pub completed-finished : Finished P i t S rs S'
-  completed-finished =
-      let w = after-loop in
-      let g = grows-on after-marks.went.grows w.went.grows in
-      record { ready = w.ready; grows = g; exactly = needed-exactly w.ready.grown w.ready.conforming g (λ r j. (k r j).there) still-split w.went.inside }
+  pub completed_finished : Finished P i t S rs S'
+  completed_finished =
+      let w = after_loop in
+      let g = grows_on after_marks.went.grows w.went.grows in
+      record { ready = w.ready; grows = g; exactly = needed_exactly w.ready.grown w.ready.conforming g (λ r j. (k r j).there) still_split w.went.inside }
 
 -- ---- counts
 
@@ -58,9 +58,9 @@ pub record Alike (P : List Point) (t : ℕ) (A B : Skeleton) : Type 0 where
   pub vertices : length A.records ≡ length B.records
 
 -- equal splits, equal counts
-pub same-counts : {P : List Point} {i t : ℕ} {A B : Skeleton} → Ready P i t A → Ready P i t B → forestOf (meshed P A) t ≡ forestOf (meshed P B) t → ((e : Element) → SplitOf (meshed P A) t e ↔ SplitOf (meshed P B) t e) → Alike P t A B
-same-counts a b f s = record {
+pub same_counts : {P : List Point} {i t : ℕ} {A B : Skeleton} → Ready P i t A → Ready P i t B → forest_of (meshed P A) t ≡ forest_of (meshed P B) t → ((e : Element) → SplitOf (meshed P A) t e ↔ SplitOf (meshed P B) t e) → Alike P t A B
+same_counts a b f s = record {
   elements = s;
-  rows = omega (arith, fewer-rows a.grown b.grown f (λ e. (s e).0), fewer-rows b.grown a.grown (sym f) (λ e. (s e).1));
-  vertices = omega (arith, fewer-vertices a.grown b.grown f (λ e. (s e).0), fewer-vertices b.grown a.grown (sym f) (λ e. (s e).1));
+  rows = omega (arith, fewer_rows a.grown b.grown f (λ e. (s e).0), fewer_rows b.grown a.grown (sym f) (λ e. (s e).1));
+  vertices = omega (arith, fewer_vertices a.grown b.grown f (λ e. (s e).0), fewer_vertices b.grown a.grown (sym f) (λ e. (s e).1));
 }

@@ -4,11 +4,11 @@ use mathlib.Core.Bool.{Bool, true, false}
 use mathlib.Core.Logic.{inl, inr}
 use Prim.Native.Nat.{ℕ, ◌+◌, ◌-◌, ◌*◌, ◌/◌, ◌<◌}
 use native.Mathlib.Omega.{arith}
-use Rattle.split.proofs.laws.Places.{le-or-lt}
+use Rattle.split.proofs.laws.Places.{le_or_lt}
 use Rattle.intake.specs.declared.answer.Found.TheVariants.{At, Nowhere}
 use Rattle.intake.specs.Search.{first}
-use Rattle.intake.proofs.laws.Search.{first-none, first-stopped}
-use Rattle.sound.proofs.laws.Searches.{refuted, first-nowhere}
+use Rattle.intake.proofs.laws.Search.{first_none, first_stopped}
+use Rattle.sound.proofs.laws.Searches.{refuted, first_nowhere}
 
 -- where a flag is set, so is the one above it
 pub record Covers (flag above : ℕ → Bool) : Type 0 where
@@ -16,18 +16,18 @@ pub record Covers (flag above : ℕ → Bool) : Type 0 where
 
 -- none above is set below b, so no flag is set below 64 b
 pub none_below : {flag above : ℕ → Bool} → Covers flag above → (b : ℕ) → first above b ≡ Nowhere → first flag (64 * b) ≡ Nowhere
-none_below {flag} {above} c b h = first-nowhere flag (64 * b) (λ k l. refuted (flag k) (above (k / 64)) (c.set k) (first-none above b h (k / 64) (omega arith)))
+none_below {flag} {above} c b h = first_nowhere flag (64 * b) (λ k l. refuted (flag k) (above (k / 64)) (c.set k) (first_none above b h (k / 64) (omega arith)))
 
 -- and none of the 64 at b: go on with b + 1
 pub none_more : (flag : ℕ → Bool) (b : ℕ) → first flag (64 * b) ≡ Nowhere → ((j : ℕ) → j < 64 → flag (64 * b + j) ≡ false) → first flag (64 * (b + 1)) ≡ Nowhere
-none_more flag b h k = first-nowhere flag (64 * (b + 1)) (λ r l. elim (le-or-lt (64 * b) r) [
-  | inr m ↦ first-none flag (64 * b) h r m
+none_more flag b h k = first_nowhere flag (64 * (b + 1)) (λ r l. elim (le_or_lt (64 * b) r) [
+  | inr m ↦ first_none flag (64 * b) h r m
   | inl m ↦ let e : 64 * b + (r - 64 * b) ≡ r = omega arith in rw e at (k (r - 64 * b) (omega arith))
 ])
 
 -- the first of the 64 that is set is the lowest of all
-pub first-here : (flag : ℕ → Bool) (b j n : ℕ) → first flag (64 * b) ≡ Nowhere → ((l : ℕ) → l < j → flag (64 * b + l) ≡ false) → flag (64 * b + j) ≡ true → 64 * b + j < n → first flag n ≡ At (64 * b + j)
-first-here flag b j n h k t l = first-stopped flag (64 * b + j) n (first-nowhere flag (64 * b + j) (λ r x. elim (le-or-lt (64 * b) r) [
-  | inr m ↦ first-none flag (64 * b) h r m
+pub first_here : (flag : ℕ → Bool) (b j n : ℕ) → first flag (64 * b) ≡ Nowhere → ((l : ℕ) → l < j → flag (64 * b + l) ≡ false) → flag (64 * b + j) ≡ true → 64 * b + j < n → first flag n ≡ At (64 * b + j)
+first_here flag b j n h k t l = first_stopped flag (64 * b + j) n (first_nowhere flag (64 * b + j) (λ r x. elim (le_or_lt (64 * b) r) [
+  | inr m ↦ first_none flag (64 * b) h r m
   | inl m ↦ let e : 64 * b + (r - 64 * b) ≡ r = omega arith in rw e at (k (r - 64 * b) (omega arith))
 ])) t l

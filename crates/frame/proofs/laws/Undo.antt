@@ -8,12 +8,12 @@ use Rattle.split.specs.Row.{childless}
 use Rattle.frame.specs.Undo.{restored}
 
 module _ (n : ℕ) (r : Row) {child : ℕ} (is : child ≡ r.child) where
-  pub restored-kept : child < n → r ≡ restored n r
+  pub restored_kept : child < n → r ≡ restored n r
   unfolding restored
-  restored-kept h = rw (lt-leb n r.child (omega (arith, is, h)))
+  restored_kept h = rw (lt-leb n r.child (omega (arith, is, h)))
 
-  pub restored-child : {p : Row} → p ≡ childless r → n ≤ child → p ≡ restored n r
+  pub restored_child : {p : Row} → p ≡ childless r → n ≤ child → p ≡ restored n r
   unfolding restored
-  restored-child e h = rw (le-leb n r.child (omega (arith, is, h))) e
+  restored_child e h = rw (le-leb n r.child (omega (arith, is, h))) e
 
-pub ruleset restoring = (restored-kept, restored-child)
+pub ruleset restoring = (restored_kept, restored_child)

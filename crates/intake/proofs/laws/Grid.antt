@@ -8,26 +8,26 @@ use lib.ListN.{length, get_or, take, drop, get_or-eq_default}
 use lib.Seq.{get_or-take, get_or-drop}
 use Rattle.intake.specs.declared.grid.Grid.{Grid}
 use Rattle.intake.specs.declared.grid.Four.{Four}
-use Rattle.intake.specs.Cells.{cells, quads, fourOf}
+use Rattle.intake.specs.Cells.{cells, quads, four_of}
 
 behind : (T : List ℕ) (i : ℕ) → length T ≤ i → 0 ≡ get_or T i 0
 behind T i h = sym (get_or-eq_default T 0 {n = i} h)
 
-pub behind-at : (T : List ℕ) (at q : ℕ) → length T - at ≤ q → 0 ≡ get_or T (at + q) 0
-behind-at T at q h = behind T (at + q) (omega arith)
+pub behind_at : (T : List ℕ) (at q : ℕ) → length T - at ≤ q → 0 ≡ get_or T (at + q) 0
+behind_at T at q h = behind T (at + q) (omega arith)
 
 module _ (T : List ℕ) (g : Grid) (k q : ℕ) where
-  pub row-behind : g.rows ≡ true → length T / 8 < k → 0 ≡ (cells T g).vertex k q
-  row-behind e h = rw e (behind T (8 * k + q) (omega arith))
+  pub row_behind : g.rows ≡ true → length T / 8 < k → 0 ≡ (cells T g).vertex k q
+  row_behind e h = rw e (behind T (8 * k + q) (omega arith))
 
-  pub row-there : {r : ℕ} → g.rows ≡ true → r ≡ get_or T (8 * k + q) 0 → r ≡ (cells T g).vertex k q
-  row-there e h = rw e h
+  pub row_there : {r : ℕ} → g.rows ≡ true → r ≡ get_or T (8 * k + q) 0 → r ≡ (cells T g).vertex k q
+  row_there e h = rw e h
 
-  pub quad-behind : g.rows ≡ false → length T / 4 < k → 0 ≡ (cells T g).vertex k q
-  quad-behind e h = rw e (behind T (4 * k + q) (omega arith))
+  pub quad_behind : g.rows ≡ false → length T / 4 < k → 0 ≡ (cells T g).vertex k q
+  quad_behind e h = rw e (behind T (4 * k + q) (omega arith))
 
-  pub quad-there : {r : ℕ} → g.rows ≡ false → r ≡ get_or T (4 * k + q) 0 → r ≡ (cells T g).vertex k q
-  quad-there e h = rw e h
+  pub quad_there : {r : ℕ} → g.rows ≡ false → r ≡ get_or T (4 * k + q) 0 → r ≡ (cells T g).vertex k q
+  quad_there e h = rw e h
 
 -- ---- four numbers read as one part of a table
 
@@ -40,15 +40,15 @@ part_at T i q h = get_or-take (i + 4 - i) (drop i T) q 0 (omega arith) ∙ get_o
 abbrev four : ℕ → ℕ → ℕ → ℕ → Four
 four a b c d = record { a = a; b = b; c = c; d = d }
 
-part-four : (T : List ℕ) (i : ℕ) → fourOf (quads (part T i)) 0 ≡ four (get_or T (i + 0) 0) (get_or T (i + 1) 0) (get_or T (i + 2) 0) (get_or T (i + 3) 0)
-unfolding fourOf
-part-four T i = rw (← part_at T i 0 (omega arith), ← part_at T i 1 (omega arith), ← part_at T i 2 (omega arith), ← part_at T i 3 (omega arith))
+part_four : (T : List ℕ) (i : ℕ) → four_of (quads (part T i)) 0 ≡ four (get_or T (i + 0) 0) (get_or T (i + 1) 0) (get_or T (i + 2) 0) (get_or T (i + 3) 0)
+unfolding four_of
+part_four T i = rw (← part_at T i 0 (omega arith), ← part_at T i 1 (omega arith), ← part_at T i 2 (omega arith), ← part_at T i 3 (omega arith))
 
 module _ (T : List ℕ) (g : Grid) (k : ℕ) {r : Four} where
-  pub row-four : g.rows ≡ true → r ≡ fourOf (quads (part T (8 * k))) 0 → r ≡ fourOf (cells T g) k
-  unfolding fourOf
-  row-four e h = rw e (h ∙ part-four T (8 * k))
+  pub row_four : g.rows ≡ true → r ≡ four_of (quads (part T (8 * k))) 0 → r ≡ four_of (cells T g) k
+  unfolding four_of
+  row_four e h = rw e (h ∙ part_four T (8 * k))
 
-  pub quad-four : g.rows ≡ false → r ≡ fourOf (quads (part T (4 * k))) 0 → r ≡ fourOf (cells T g) k
-  unfolding fourOf
-  quad-four e h = rw e (h ∙ part-four T (4 * k))
+  pub quad_four : g.rows ≡ false → r ≡ four_of (quads (part T (4 * k))) 0 → r ≡ four_of (cells T g) k
+  unfolding four_of
+  quad_four e h = rw e (h ∙ part_four T (4 * k))

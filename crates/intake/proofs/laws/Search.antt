@@ -8,43 +8,43 @@ use native.Mathlib.Numerals.{add-one}
 use native.Mathlib.Omega.{arith}
 use Rattle.intake.specs.declared.answer.Found.{Found}
 use Rattle.intake.specs.declared.answer.Found.TheVariants.{At, Nowhere}
-use Rattle.intake.specs.Search.{orAt, first, any}
+use Rattle.intake.specs.Search.{or_at, first, any}
 
 -- ---- the smallest place
 
 module _ (test : ℕ → Bool) where
-  pub first-start : first test 0 ≡ Nowhere
+  pub first_start : first test 0 ≡ Nowhere
   unfolding first
-  first-start = refl
+  first_start = refl
 
   -- a loop passed place n
-  pub first-passed : (n : ℕ) → first test n ≡ Nowhere → test n ≡ false → first test (n + 1) ≡ Nowhere
+  pub first_passed : (n : ℕ) → first test n ≡ Nowhere → test n ≡ false → first test (n + 1) ≡ Nowhere
   unfolding first
-  first-passed n p q = rw (add-one, first, p, q)
+  first_passed n p q = rw (add-one, first, p, q)
 
   -- a loop stopped at place n: later places do not matter
-  pub first-stopped : (n m : ℕ) → first test n ≡ Nowhere → test n ≡ true → n < m → first test m ≡ At n
+  pub first_stopped : (n m : ℕ) → first test n ≡ Nowhere → test n ≡ true → n < m → first test m ≡ At n
   unfolding first
-  first-stopped n zero p q h = absurd (omega arith)
-  first-stopped n (suc m) p q h = elim (eq-or-lt_of_le (le_of_suc-le-suc h)) [ inl e ↦ rw (first, ← e, p, q) | inr l ↦ rw (first, first-stopped n m p q l) ]
+  first_stopped n zero p q h = absurd (omega arith)
+  first_stopped n (suc m) p q h = elim (eq-or-lt_of_le (le_of_suc-le-suc h)) [ inl e ↦ rw (first, ← e, p, q) | inr l ↦ rw (first, first_stopped n m p q l) ]
 
   -- nothing was found
-  pub first-none : (n : ℕ) → first test n ≡ Nowhere → (k : ℕ) → k < n → test k ≡ false
+  pub first_none : (n : ℕ) → first test n ≡ Nowhere → (k : ℕ) → k < n → test k ≡ false
   unfolding first
-  first-none zero e k h = absurd (omega arith)
-  first-none (suc n) e k h = go (first test n) (test n) refl refl e (first-none n)
+  first_none zero e k h = absurd (omega arith)
+  first_none (suc n) e k h = go (first test n) (test n) refl refl e (first_none n)
     where
-      go : (f : Found) (b : Bool) → first test n ≡ f → test n ≡ b → orAt f b n ≡ Nowhere → (first test n ≡ Nowhere → (k : ℕ) → k < n → test k ≡ false) → test k ≡ false
+      go : (f : Found) (b : Bool) → first test n ≡ f → test n ≡ b → or_at f b n ≡ Nowhere → (first test n ≡ Nowhere → (k : ℕ) → k < n → test k ≡ false) → test k ≡ false
       go (At p) b f t x ih = let z : ◌≡◌ {A = ℕ} 0 1 = cc in absurd (omega arith)
       go Nowhere true f t x ih = let z : ◌≡◌ {A = ℕ} 0 1 = cc in absurd (omega arith)
       go Nowhere false f t x ih = elim (eq-or-lt_of_le (le_of_suc-le-suc h)) [ inl i ↦ ap test i ∙ t | inr l ↦ ih f k l ]
 
   -- ---- whether there is one
 
-  pub any-has : (n k : ℕ) → k < n → test k ≡ true → any test n ≡ true
+  pub any_has : (n k : ℕ) → k < n → test k ≡ true → any test n ≡ true
   unfolding any
-  any-has zero k h t = absurd (omega arith)
-  any-has (suc n) k h t = elim (eq-or-lt_of_le (le_of_suc-le-suc h)) [ inl e ↦ rw (any, ← e, t, or-true) | inr l ↦ rw (any, any-has n k l t) ]
+  any_has zero k h t = absurd (omega arith)
+  any_has (suc n) k h t = elim (eq-or-lt_of_le (le_of_suc-le-suc h)) [ inl e ↦ rw (any, ← e, t, or-true) | inr l ↦ rw (any, any_has n k l t) ]
     where
       or-true : (b : Bool) → b || true ≡ true
       or-true true = refl

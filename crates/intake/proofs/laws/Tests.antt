@@ -25,8 +25,8 @@ agrees a b h = rw (eq-eqb a b h)
 pub reaches : {a r b : ℕ} → r ≡ b → a ≤ r → leb a b ≡ true
 reaches {a} p h = rw (← p, le-leb a _ h)
 
-pub ends-under : {a r b : ℕ} → r ≡ b → r < a → leb a b ≡ false
-ends-under {a} p h = rw (← p, lt-leb a _ h)
+pub ends_under : {a r b : ℕ} → r ≡ b → r < a → leb a b ≡ false
+ends_under {a} p h = rw (← p, lt-leb a _ h)
 
 pub same_test : (a : ℕ) {r b : ℕ} → r ≡ b → leb a r ≡ leb a b
 same_test a p = rw p
@@ -35,13 +35,13 @@ same_test a p = rw p
 pub held : {p a r : Bool} (b : Bool) → p ≡ a → p ≡ true → r ≡ not b → r ≡ not (a && b)
 held b e p q = rw (← e, p, q)
 
-pub held-last : {p a : Bool} → p ≡ a → p ≡ true → false ≡ not a
-held-last e p = rw (← e, p)
+pub held_last : {p a : Bool} → p ≡ a → p ≡ true → false ≡ not a
+held_last e p = rw (← e, p)
 
 pub broken : {p a : Bool} (b : Bool) → p ≡ a → p ≡ false → true ≡ not (a && b)
 broken b e p = rw (← e, p)
 
-pub broken-last : {p a : Bool} → p ≡ a → p ≡ false → true ≡ not a
-broken-last e p = rw (← e, p)
+pub broken_last : {p a : Bool} → p ≡ a → p ≡ false → true ≡ not a
+broken_last e p = rw (← e, p)
 
-pub ruleset tests = (stopped, passed, differs, agrees, eq-eqb, ne_eqb, lt-ltb, le-ltb, reaches, ends-under, same_test, held, held-last, broken, broken-last)
+pub ruleset tests = (stopped, passed, differs, agrees, eq-eqb, ne_eqb, lt-ltb, le-ltb, reaches, ends_under, same_test, held, held_last, broken, broken_last)

@@ -19,11 +19,11 @@ within j nan = false
 within j (inf s) = false
 within j (fin s m e) = leb (m * up e) (2 ^ j * down e)
 
-usable-is : (x : Float) → usable x ≡ within 1000 x
+usable_is : (x : Float) → usable x ≡ within 1000 x
 unfolding usable
-usable-is nan = refl
-usable-is (inf s) = refl
-usable-is (fin s m e) = refl
+usable_is nan = refl
+usable_is (inf s) = refl
+usable_is (fin s m e) = refl
 
 -- 2 ^ j
 abbrev end : ℕ → Float
@@ -57,9 +57,9 @@ ordered j (fin true m e) = fallen (m * up e) (2 ^ j) (down e) (mul-pos (pow_pos 
 abbrev pub most : Float
 most = of_bits binary64 0x7e70000000000000
 
-most-is : most ≡ end 1000
+most_is : most ≡ end 1000
 unfolding of_bits
-most-is = refl
+most_is = refl
 
-pub usable-by-order : (x : Float) → usable x ≡ (le x most && le (neg most) x)
-usable-by-order x = rw most-is (usable-is x ∙ ordered 1000 x)
+pub usable_by_order : (x : Float) → usable x ≡ (le x most && le (neg most) x)
+usable_by_order x = rw most_is (usable_is x ∙ ordered 1000 x)

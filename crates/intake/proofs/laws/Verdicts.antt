@@ -4,22 +4,22 @@ use mathlib.Core.Bool.{true, false}
 use Prim.Native.Nat.{ℕ, ◌/◌}
 use Rattle.intake.specs.declared.answer.Verdict.{Verdict}
 use Rattle.intake.specs.declared.answer.Verdict.TheVariants.{Refused}
-use Rattle.intake.specs.Causes.{wrongInput, wrongLent, noRoom}
+use Rattle.intake.specs.Causes.{wrong_input, wrong_lent, has_no_room}
 use Rattle.intake.specs.Verdict.{fitting}
 
 module _ (f e p r w : ℕ) (next : Verdict) where
-  pub input-refused : wrongInput f e ≡ true → fitting f e p r w next ≡ Refused 1 0
+  pub input_refused : wrong_input f e ≡ true → fitting f e p r w next ≡ Refused 1 0
   unfolding fitting
-  input-refused a = rw a
+  input_refused a = rw a
 
-  pub lent-refused : wrongInput f e ≡ false → wrongLent p r w ≡ true → fitting f e p r w next ≡ Refused 1 0
+  pub lent_refused : wrong_input f e ≡ false → wrong_lent p r w ≡ true → fitting f e p r w next ≡ Refused 1 0
   unfolding fitting
-  lent-refused a b = rw (a, b)
+  lent_refused a b = rw (a, b)
 
-  pub room-refused : wrongInput f e ≡ false → wrongLent p r w ≡ false → noRoom (f / 3) (e / 4) p r w ≡ true → fitting f e p r w next ≡ Refused 2 0
+  pub room_refused : wrong_input f e ≡ false → wrong_lent p r w ≡ false → has_no_room (f / 3) (e / 4) p r w ≡ true → fitting f e p r w next ≡ Refused 2 0
   unfolding fitting
-  room-refused a b c = rw (a, b, c)
+  room_refused a b c = rw (a, b, c)
 
-  pub lengths-passed : wrongInput f e ≡ false → wrongLent p r w ≡ false → noRoom (f / 3) (e / 4) p r w ≡ false → fitting f e p r w next ≡ next
+  pub lengths_passed : wrong_input f e ≡ false → wrong_lent p r w ≡ false → has_no_room (f / 3) (e / 4) p r w ≡ false → fitting f e p r w next ≡ next
   unfolding fitting
-  lengths-passed a b c = rw (a, b, c)
+  lengths_passed a b c = rw (a, b, c)

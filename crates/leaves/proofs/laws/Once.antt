@@ -11,7 +11,7 @@ use lib.Dec.{eqb}
 use lib.ListN.{length}
 use Rattle.split.proofs.laws.Places.{less, equal, more, Against, against}
 use Rattle.intake.specs.Search.{count}
-use Rattle.opening.proofs.laws.Counting.{count_same, count-zero}
+use Rattle.opening.proofs.laws.Counting.{count_same, count_zero}
 
 -- the property without the number x
 abbrev without : (ℕ → Bool) → ℕ → ℕ → Bool
@@ -25,8 +25,8 @@ module _ (test : ℕ → Bool) (x : ℕ) where
       go true = refl
       go false = refl
 
-  without-self : without test x x ≡ false
-  without-self = rw (eq-eqb x x refl) (go (test x))
+  without_self : without test x x ≡ false
+  without_self = rw (eq-eqb x x refl) (go (test x))
     where
       go : (b : Bool) → b && false ≡ false
       go true = refl
@@ -40,10 +40,10 @@ module _ (test : ℕ → Bool) (x : ℕ) where
       go true true f g = let z : false ≡ true = rw (f, g) at e in absurd (true≢false (sym z))
       go false d f g = let z : false ≡ true = rw f at e in absurd (true≢false (sym z))
 
-  count-without : (n : ℕ) → x < n → test x ≡ true → count test n ≡ suc (count (without test x) n)
+  count_without : (n : ℕ) → x < n → test x ≡ true → count test n ≡ suc (count (without test x) n)
   unfolding count
-  count-without zero h e = absurd (omega arith)
-  count-without (suc n) h e = go (against x n) (λ l. count-without n l e)
+  count_without zero h e = absurd (omega arith)
+  count_without (suc n) h e = go (against x n) (λ l. count_without n l e)
     where
       number : {a b : Bool} → a ≡ b → ◌≡◌ {A = ℕ} (cond a 1 0) (cond b 1 0)
       number z = rw z
@@ -52,23 +52,23 @@ module _ (test : ℕ → Bool) (x : ℕ) where
       go (less l) ih = omega (arith, ih l, number (without_other n (λ z. omega arith)))
       go (equal q) ih =
           let held : test n ≡ true = rw (← q) e in
-          let left : without test x n ≡ false = rw (← q) without-self in
+          let left : without test x n ≡ false = rw (← q) without_self in
           omega (arith, count_same (without test x) test n (λ j k. without_other j (λ z. omega arith)), number held, number left)
       go (more l) ih = absurd (omega arith)
 
-pub once-count : (l : List ℕ) (test : ℕ → Bool) (n : ℕ) → Nodup l → ((q : ℕ) → Memᴰ q l → (q < n) × (test q ≡ true)) → ((q : ℕ) → q < n → test q ≡ true → Memᴰ q l) → length l ≡ count test n
-once-count [] test n o in-l has = sym (count-zero test n (λ q h. none (test q) (λ e. Memᴰ.not-nil (has q h e))))
+pub once_count : (l : List ℕ) (test : ℕ → Bool) (n : ℕ) → Nodup l → ((q : ℕ) → Memᴰ q l → (q < n) × (test q ≡ true)) → ((q : ℕ) → q < n → test q ≡ true → Memᴰ q l) → length l ≡ count test n
+once_count [] test n o in-l has = sym (count_zero test n (λ q h. none (test q) (λ e. Memᴰ.not-nil (has q h e))))
   where
     none : (b : Bool) → (b ≡ true → ⊥) → b ≡ false
     none true f = absurd (f refl)
     none false f = refl
-once-count (x ∷ l) test n o in-l has =
+once_count (x ∷ l) test n o in-l has =
     let here = in-l x (Memᴰ.head refl) in
     let apart = Nodup-cons.0 o in
-    ap suc (once-count l (without test x) n apart.1
+    ap suc (once_count l (without test x) n apart.1
     (λ q k. let w = in-l q (Memᴰ.tail k) in (w.0, without_other test x q (λ z. apart.0 (mem (sym z) k)) ∙ w.1))
     (λ q h e. let w = without_from test x q e in rest q w.1 (Memᴰ.cases_cons (has q h w.0))))
-    ∙ sym (count-without test x n here.0 here.1)
+    ∙ sym (count_without test x n here.0 here.1)
   where
     mem : {a b : ℕ} → a ≡ b → Memᴰ b l → Mem a l
     mem z k = ∣ Memᴰ.cast z k ∣₁

@@ -8,7 +8,7 @@ use borrow.Author.Tests.{not-true, not-false}
 use lib.Ieee.{Float}
 use Rattle.split.specs.declared.row.Row.{Row}
 use Rattle.tables.specs.declared.layout.Counts.{Counts}
-use Rattle.tables.specs.Mesh.{Lent, meshOf}
+use Rattle.tables.specs.Mesh.{Lent, mesh_of}
 use Rattle.tables.specs.Report.{Tally}
 use Rattle.sound.specs.Sound.{Sound}
 use Rattle.sound.specs.Check.{Decides, lent}
@@ -16,7 +16,7 @@ use Rattle.leaves.specs.declared.answer.Listed.{Listed}
 use Rattle.leaves.specs.declared.answer.Listed.TheVariants.{Done, Refused}
 use Rattle.leaves.specs.Lists.{reported, Refuses, OnRoom, short, fits, Lists, unsound, sound}
 use Rattle.leaves.specs.Walk.{rows_of, Listable}
-use Rattle.leaves.proofs.laws.Sound.{sound-listable}
+use Rattle.leaves.proofs.laws.Sound.{sound_listable}
 
 -- ---- one outcome
 
@@ -24,55 +24,55 @@ abbrev Same : Listed → List ℕ → List ℕ → Listed → List ℕ → List 
 Same r l v r₂ l₂ v₂ = (r ≡ r₂) × (l ≡ l₂) × (v ≡ v₂)
 
 module _ {l v : List ℕ} {r r₂ : Listed} {l' v' l₂ v₂ : List ℕ} where
-  one-refusal : {n : ℕ} → Refuses l v n r l' v' → Refuses l v n r₂ l₂ v₂ → Same r l' v' r₂ l₂ v₂
-  one-refusal x y = (x.answers ∙ sym y.answers, x.list_same ∙ sym y.list_same, x.levels-same ∙ sym y.levels-same)
+  one_refusal : {n : ℕ} → Refuses l v n r l' v' → Refuses l v n r₂ l₂ v₂ → Same r l' v' r₂ l₂ v₂
+  one_refusal x y = (x.answers ∙ sym y.answers, x.list_same ∙ sym y.list_same, x.levels_same ∙ sym y.levels_same)
 
   on_room : {W : List Row} → OnRoom W l v r l' v' → OnRoom W l v r₂ l₂ v₂ → Same r l' v' r₂ l₂ v₂
-  on_room (short s x) (short s' y) = one-refusal x y
+  on_room (short s x) (short s' y) = one_refusal x y
   on_room (short s x) (fits n y) = absurd (n s)
   on_room (fits n x) (short s y) = absurd (n s)
-  on_room (fits n x) (fits n' y) = (x.answers ∙ sym y.answers, x.list-is ∙ sym y.list-is, x.levels-is ∙ sym y.levels-is)
+  on_room (fits n x) (fits n' y) = (x.answers ∙ sym y.answers, x.list_is ∙ sym y.list_is, x.levels_is ∙ sym y.levels_is)
 
-  pub one-outcome : {t : Lent} {c : Counts} → Lists t c l v r l' v' → Lists t c l v r₂ l₂ v₂ → Same r l' v' r₂ l₂ v₂
-  one-outcome (unsound n x) (unsound n' y) = one-refusal x y
-  one-outcome (unsound n x) (sound s y) = absurd (n s)
-  one-outcome (sound s x) (unsound n y) = absurd (n s)
-  one-outcome (sound s x) (sound s' y) = on_room x y
+  pub one_outcome : {t : Lent} {c : Counts} → Lists t c l v r l' v' → Lists t c l v r₂ l₂ v₂ → Same r l' v' r₂ l₂ v₂
+  one_outcome (unsound n x) (unsound n' y) = one_refusal x y
+  one_outcome (unsound n x) (sound s y) = absurd (n s)
+  one_outcome (sound s x) (unsound n y) = absurd (n s)
+  one_outcome (sound s x) (sound s' y) = on_room x y
 
 -- ---- two answers with the same report are equal: no refusal has number 0, so a report tells which case it is of
 
 same_number : {n m p q : ℕ} → Refused n p ≡ Refused m q → n ≡ m
 same_number e = cc
 
-pub done-same : {n m : ℕ} → Done n ≡ Done m → n ≡ m
-done-same e = cc
+pub done_same : {n m : ℕ} → Done n ≡ Done m → n ≡ m
+done_same e = cc
 
-pub done-never : {X : Type 0} {k n p : ℕ} → Refused n p ≡ Done k → X
-done-never e = let z : ◌≡◌ {A = ℕ} 0 1 = cc in absurd (omega arith)
+pub done_never : {X : Type 0} {k n p : ℕ} → Refused n p ≡ Done k → X
+done_never e = let z : ◌≡◌ {A = ℕ} 0 1 = cc in absurd (omega arith)
 
-refused-number : {t : Lent} {c : Counts} {l v : List ℕ} {k p : ℕ} {l' v' : List ℕ} → Lists t c l v (Refused k p) l' v' → 1 ≤ k
-refused-number (unsound n x) = omega (arith, same_number x.answers)
-refused-number (sound s (short h x)) = omega (arith, same_number x.answers)
-refused-number (sound s (fits n x)) = done-never x.answers
+refused_number : {t : Lent} {c : Counts} {l v : List ℕ} {k p : ℕ} {l' v' : List ℕ} → Lists t c l v (Refused k p) l' v' → 1 ≤ k
+refused_number (unsound n x) = omega (arith, same_number x.answers)
+refused_number (sound s (short h x)) = omega (arith, same_number x.answers)
+refused_number (sound s (fits n x)) = done_never x.answers
 
-pub report-tells : {t u : Lent} {c d : Counts} {l v l₂ v₂ : List ℕ} (r r₂ : Listed) {l' v' l₃ v₃ : List ℕ} → Lists t c l v r l' v' → Lists u d l₂ v₂ r₂ l₃ v₃ → reported r ≡ reported r₂ → r ≡ r₂
-report-tells (Done n) (Done m) x y e = λ i. Done (e i).leaves
-report-tells (Done n) (Refused k p) x y e = let z = ap (λ (o : Tally). o.number) e in absurd (omega (arith, z, refused-number y))
-report-tells (Refused k p) (Done n) x y e = let z = ap (λ (o : Tally). o.number) e in absurd (omega (arith, z, refused-number x))
-report-tells (Refused k p) (Refused m q) x y e = λ i. Refused (e i).number (e i).place
+pub report_tells : {t u : Lent} {c d : Counts} {l v l₂ v₂ : List ℕ} (r r₂ : Listed) {l' v' l₃ v₃ : List ℕ} → Lists t c l v r l' v' → Lists u d l₂ v₂ r₂ l₃ v₃ → reported r ≡ reported r₂ → r ≡ r₂
+report_tells (Done n) (Done m) x y e = λ i. Done (e i).leaves
+report_tells (Done n) (Refused k p) x y e = let z = ap (λ (o : Tally). o.number) e in absurd (omega (arith, z, refused_number y))
+report_tells (Refused k p) (Done n) x y e = let z = ap (λ (o : Tally). o.number) e in absurd (omega (arith, z, refused_number x))
+report_tells (Refused k p) (Refused m q) x y e = λ i. Refused (e i).number (e i).place
 
 -- ---- the whole
 
 module _ {p : List Float} {r w : List ℕ} {c : Counts} {b : Bool} (d : Decides (Sound (lent p r w) c) b) where
-  pub list-unsound : not b ≡ true → {l v : List ℕ} → Lists (lent p r w) c l v (Refused 9 0) l v
-  list-unsound e = unsound (d.no (not-true b e)) (record { answers = refl; reports = refl; list_same = refl; levels-same = refl })
+  pub list_unsound : not b ≡ true → {l v : List ℕ} → Lists (lent p r w) c l v (Refused 9 0) l v
+  list_unsound e = unsound (d.no (not-true b e)) (record { answers = refl; reports = refl; list_same = refl; levels_same = refl })
 
   module _ (e : not b ≡ false) where
-    pub list-ready : Listable w c.rows
-    list-ready = sound-listable (d.yes (not-false b e))
+    pub list_ready : Listable w c.rows
+    list_ready = sound_listable (d.yes (not-false b e))
 
-    pub list-sound : {l v l' v' : List ℕ} {a : Listed} → OnRoom (rows_of w c.rows) l v a l' v' → Lists (lent p r w) c l v a l' v'
-    unfolding meshOf
-    list-sound o = sound (d.yes (not-false b e)) o
+    pub list_sound : {l v l' v' : List ℕ} {a : Listed} → OnRoom (rows_of w c.rows) l v a l' v' → Lists (lent p r w) c l v a l' v'
+    unfolding mesh_of
+    list_sound o = sound (d.yes (not-false b e)) o
 
-pub ruleset wholly = (list-unsound, list-ready, list-sound)
+pub ruleset wholly = (list_unsound, list_ready, list_sound)

@@ -6,22 +6,22 @@ use native.Mathlib.Nat.{le_refl, mul_comm, mul-suc, mul-zero, div-lt_iff_lt-mul,
 use native.Mathlib.Omega.{arith}
 use mir.Syntax.{w32}
 use mir.Val.{Fits}
-use Rattle.split.proofs.laws.Tags.{tag-range}
+use Rattle.split.proofs.laws.Tags.{tag_range}
 use Rattle.forest.specs.Element.{Forest, dimension, Element, Shape, depth, shape}
 use Rattle.forest.specs.Invariant as invariant
 use Rattle.forest.specs.Level.{LevelOf}
-use Rattle.forest.specs.Shallow.{rootOf}
+use Rattle.forest.specs.Shallow.{root_of}
 use Rattle.forest.specs.Start.{Coloured}
-use Rattle.forest.proofs.Blocking.{factor-le}
+use Rattle.forest.proofs.Blocking.{factor_le}
 use Rattle.forest.proofs.Levels.{Ceiling, levelled}
 use Rattle.forest.proofs.Theory.{fits}
-use Rattle.leaves.specs.Listing.{levelOf}
+use Rattle.leaves.specs.Listing.{level_of}
 
 module _ {n : ℕ} (some : 1 ≤ n) where
   -- rounded up: the level is at most k exactly if the depth is at most n k
-  pub rounded-up : (d k : ℕ) → (levelOf n d ≤ k) ↔ (d ≤ n * k)
-  unfolding levelOf
-  rounded-up d k = (λ h. omega (arith, some, product, test.0 (omega arith)), λ h. omega (arith, test.1 (omega (arith, some, product))))
+  pub rounded_up : (d k : ℕ) → (level_of n d ≤ k) ↔ (d ≤ n * k)
+  unfolding level_of
+  rounded_up d k = (λ h. omega (arith, some, product, test.0 (omega arith)), λ h. omega (arith, test.1 (omega (arith, some, product))))
     where
       test : ((d + (n - 1)) / n < suc k) ↔ (d + (n - 1) < suc k * n)
       test = div-lt_iff_lt-mul some
@@ -30,29 +30,29 @@ module _ {n : ℕ} (some : 1 ≤ n) where
       product = rw (mul_comm (suc k) n) (mul-suc n k)
 
   -- the code's two cases: it forms one less than the depth, so that no sum can outgrow a u32
-  pub level-none : {d : ℕ} → d ≡ 0 → 0 ≡ levelOf n d
-  level-none {d} e = omega (arith, (rounded-up d 0).1 (omega arith))
+  pub level_none : {d : ℕ} → d ≡ 0 → 0 ≡ level_of n d
+  level_none {d} e = omega (arith, (rounded_up d 0).1 (omega arith))
 
-  pub level-some : {d : ℕ} → (d ≡ 0 → ⊥) → (d - 1) / n + 1 ≡ levelOf n d
-  unfolding levelOf
-  level-some {d} e = let s : d + (n - 1) ≡ d - 1 + n = omega (arith, some, e) in rw s (sym (add-div_right (d - 1) some))
+  pub level_some : {d : ℕ} → (d ≡ 0 → ⊥) → (d - 1) / n + 1 ≡ level_of n d
+  unfolding level_of
+  level_some {d} e = let s : d + (n - 1) ≡ d - 1 + n = omega (arith, some, e) in rw s (sym (add-div_right (d - 1) some))
 
 -- and it fits where the depth does
-pub level-fits : (d n : ℕ) → (d ≡ 0 → ⊥) → Fits w32 d → Fits w32 ((d - 1) / n + 1)
-level-fits d n some h = record { fits = omega (arith, h.fits, div-le_self (d - 1) n) }
+pub level_fits : (d n : ℕ) → (d ≡ 0 → ⊥) → Fits w32 d → Fits w32 ((d - 1) / n + 1)
+level_fits d n some h = record { fits = omega (arith, h.fits, div-le_self (d - 1) n) }
 
 -- forest's level by the depth is this level, one higher
-ceiling-level : {n d : ℕ} → 1 ≤ n → (l : ℕ) → Ceiling n d l → l ≡ suc (levelOf n d)
-ceiling-level {n} {d} some zero c = absurd (omega (arith, some, c.least, mul-zero n))
-ceiling-level {n} {d} some (suc k) c =
-    let up : d ≤ n * levelOf n d = (rounded-up some d (levelOf n d)).0 (le_refl (levelOf n d)) in
-    let low : levelOf n d ≤ k = (rounded-up some d k).1 (omega (arith, c.least, mul-suc n k)) in
-    let high : k ≤ levelOf n d = factor-le n k (levelOf n d) (omega (arith, up, c.most, mul-suc n k)) in
+ceiling_level : {n d : ℕ} → 1 ≤ n → (l : ℕ) → Ceiling n d l → l ≡ suc (level_of n d)
+ceiling_level {n} {d} some zero c = absurd (omega (arith, some, c.least, mul-zero n))
+ceiling_level {n} {d} some (suc k) c =
+    let up : d ≤ n * level_of n d = (rounded_up some d (level_of n d)).0 (le_refl (level_of n d)) in
+    let low : level_of n d ≤ k = (rounded_up some d k).1 (omega (arith, c.least, mul-suc n k)) in
+    let high : k ≤ level_of n d = factor_le n k (level_of n d) (omega (arith, up, c.most, mul-suc n k)) in
     omega arith
 
-pub fits-level : {N n d : ℕ} {colour : ℕ → ℕ} {x : Shape} → invariant.Fits N colour n d x → LevelOf N colour n x (suc (levelOf n d))
-fits-level {x = x} f = let (l, a, c) = levelled f in rw (ceiling-level (omega (arith, f.tagged, (tag-range x.tag).0)) l c) at a
+pub fits_level : {N n d : ℕ} {colour : ℕ → ℕ} {x : Shape} → invariant.Fits N colour n d x → LevelOf N colour n x (suc (level_of n d))
+fits_level {x = x} f = let (l, a, c) = levelled f in rw (ceiling_level (omega (arith, f.tagged, (tag_range x.tag).0)) l c) at a
 
 -- The level of an element is the number of its splits divided by the dimension, rounded up (000, after equation (10); levels of crate forest are one higher).
-pub element-level : (F : Forest) (N : ℕ) (colour : ℕ → ℕ) → Coloured F N colour → (e : Element) → rootOf e < F.count → LevelOf N colour (dimension F) (shape F e) (suc (levelOf (dimension F) (depth e)))
-element-level F N colour c e valid = fits-level (fits F N colour c e valid)
+pub element_level : (F : Forest) (N : ℕ) (colour : ℕ → ℕ) → Coloured F N colour → (e : Element) → root_of e < F.count → LevelOf N colour (dimension F) (shape F e) (suc (level_of (dimension F) (depth e)))
+element_level F N colour c e valid = fits_level (fits F N colour c e valid)

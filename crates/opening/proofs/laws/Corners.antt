@@ -12,20 +12,20 @@ use Rattle.intake.specs.Cells.{Cells}
 use Rattle.intake.specs.Search.{any, count}
 use Rattle.intake.specs.Causes.{vertex, has}
 use Rattle.opening.specs.Scratch.{slot, Plain}
-use Rattle.opening.proofs.laws.Counting.{count_same, count_add, count-once}
+use Rattle.opening.proofs.laws.Counting.{count_same, count_add, count_once}
 use Rattle.opening.proofs.laws.Walking.{visits}
 
 -- an element holds what one of its four places has
-has-any : (E : Cells) (k v : ℕ) → any (λ q. eqb (vertex E k q) v) 4 ≡ has E k v
+has_any : (E : Cells) (k v : ℕ) → any (λ q. eqb (vertex E k q) v) 4 ≡ has E k v
 unfolding any has
-has-any E k v = simp or_assoc
+has_any E k v = simp or_assoc
 
 module _ {vertices : ℕ} {E : Cells} (x : Plain vertices E) (P : ℕ → Bool) where
   -- the four slots of element k
-  element-visits : (v k : ℕ) → k < E.count → visits (slot E) v (λ i. P (i / 4)) (4 * suc k) ≡ visits (slot E) v (λ i. P (i / 4)) (4 * k) + cond (has E k v && P k) 1 0
+  element_visits : (v k : ℕ) → k < E.count → visits (slot E) v (λ i. P (i / 4)) (4 * suc k) ≡ visits (slot E) v (λ i. P (i / 4)) (4 * k) + cond (has E k v && P k) 1 0
   unfolding visits
-  element-visits v k h =
-      rw (mul-suc, count_add, in-it, count-once (λ q. eqb (vertex E k q) v) (P k) 4 once, has-any E k v)
+  element_visits v k h =
+      rw (mul-suc, count_add, in-it, count_once (λ q. eqb (vertex E k q) v) (P k) 4 once, has_any E k v)
     where
       in-it : count (λ q. eqb (slot E (4 * k + q)) v && P ((4 * k + q) / 4)) 4 ≡ count (λ q. eqb (vertex E k q) v && P k) 4
       in-it = count_same _ _ 4 (λ q l. let j : (4 * k + q) / 4 ≡ k = omega arith in let p : (4 * k + q) % 4 ≡ q = omega arith in rw (j, p))
@@ -34,7 +34,7 @@ module _ {vertices : ℕ} {E : Cells} (x : Plain vertices E) (P : ℕ → Bool) 
       once p q l m s t = x.apart k p q h l m (eqb-true _ v s ∙ sym (eqb-true _ v t))
 
   -- what a walk along the slots of v before element k counts
-  pub elements-visits : (v k : ℕ) → k ≤ E.count → visits (slot E) v (λ i. P (i / 4)) (4 * k) ≡ count (λ j. has E j v && P j) k
+  pub elements_visits : (v k : ℕ) → k ≤ E.count → visits (slot E) v (λ i. P (i / 4)) (4 * k) ≡ count (λ j. has E j v && P j) k
   unfolding count visits
-  elements-visits v zero h = refl
-  elements-visits v (suc k) h = element-visits v k h ∙ rw (elements-visits v k (omega arith))
+  elements_visits v zero h = refl
+  elements_visits v (suc k) h = element_visits v k h ∙ rw (elements_visits v k (omega arith))

@@ -16,10 +16,10 @@ count_same test test' zero s = refl
 count_same test test' (suc n) s = rw (count, s n (omega arith), count_same test test' n (λ i h. s i (omega arith)))
 
 module _ (test : ℕ → Bool) where
-  pub count-below : (n : ℕ) → count test n ≤ n
+  pub count_below : (n : ℕ) → count test n ≤ n
   unfolding count
-  count-below zero = omega arith
-  count-below (suc n) = go (test n) (count-below n)
+  count_below zero = omega arith
+  count_below (suc n) = go (test n) (count_below n)
     where
       go : (b : Bool) → count test n ≤ n → count test n + cond b 1 0 ≤ suc n
       go true h = omega arith
@@ -31,16 +31,16 @@ module _ (test : ℕ → Bool) where
   count_add m zero = rw (add-zero, add-zero)
   count_add m (suc d) = rw (add-suc, count, count_add m d, add_assoc)
 
-  pub count-zero : (n : ℕ) → ((i : ℕ) → i < n → test i ≡ false) → count test n ≡ 0
+  pub count_zero : (n : ℕ) → ((i : ℕ) → i < n → test i ≡ false) → count test n ≡ 0
   unfolding count
-  count-zero zero h = refl
-  count-zero (suc n) h = rw (count, h n (omega arith), count-zero n (λ i l. h i (omega arith)))
+  count_zero zero h = refl
+  count_zero (suc n) h = rw (count, h n (omega arith), count_zero n (λ i l. h i (omega arith)))
 
   -- there is one exactly if the number is over 0
-  pub any-count : (n : ℕ) → any test n ≡ ltb 0 (count test n)
+  pub any_count : (n : ℕ) → any test n ≡ ltb 0 (count test n)
   unfolding any count
-  any-count zero = refl
-  any-count (suc n) = rw (any, any-count n, count) (go (count test n) (test n))
+  any_count zero = refl
+  any_count (suc n) = rw (any, any_count n, count) (go (count test n) (test n))
     where
       go : (c : ℕ) (b : Bool) → ltb 0 c || b ≡ ltb 0 (c + cond b 1 0)
       go zero true = refl
@@ -48,10 +48,10 @@ module _ (test : ℕ → Bool) where
       go (suc c) b = rw (lt-ltb 0 (suc c) (omega arith), lt-ltb 0 (suc c + cond b 1 0) (omega arith))
 
   -- a test that holds at one place at most
-  pub count-once : (p : Bool) (n : ℕ) → ((i j : ℕ) → i < n → j < n → test i ≡ true → test j ≡ true → i ≡ j) → count (λ i. test i && p) n ≡ cond (any test n && p) 1 0
+  pub count_once : (p : Bool) (n : ℕ) → ((i j : ℕ) → i < n → j < n → test i ≡ true → test j ≡ true → i ≡ j) → count (λ i. test i && p) n ≡ cond (any test n && p) 1 0
   unfolding any count
-  count-once p zero h = refl
-  count-once p (suc n) h = rw (any, count, count-once p n (λ i j k l. h i j (omega arith) (omega arith))) (go (any test n) (test n) refl refl)
+  count_once p zero h = refl
+  count_once p (suc n) h = rw (any, count, count_once p n (λ i j k l. h i j (omega arith) (omega arith))) (go (any test n) (test n) refl refl)
     where
       go : (a b : Bool) → any test n ≡ a → test n ≡ b → cond (a && p) 1 0 + cond (b && p) 1 0 ≡ cond ((a || b) && p) 1 0
       go true true x y = let (i, l, t) = any_some test n x in absurd (omega (arith, h i n (omega arith) (omega arith) t y))

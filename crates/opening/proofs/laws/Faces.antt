@@ -13,22 +13,22 @@ use mir.Facts.{Fits-below}
 use borrow.Author.Tests.{eq-eqb, ne_eqb, eqb-true}
 use lib.Dec.{eqb, ltb, leb}
 use lib.ListN.{length}
-use Rattle.tables.specs.Layout.{mostRows}
-use Rattle.intake.specs.Cells.{Cells, fourOf}
+use Rattle.tables.specs.Layout.{most_rows}
+use Rattle.intake.specs.Cells.{Cells, four_of}
 use Rattle.intake.specs.declared.grid.Four.{Four}
 use Rattle.opening.specs.declared.faces.Seen.{Seen}
 use Rattle.opening.specs.declared.faces.Met.{Met}
 use Rattle.intake.specs.Causes.{vertex, has, before, same, third}
-use Rattle.opening.specs.Scratch.{Plain, Chosen, Other, one, Is, Different, among, Held, place_of, turnedOf, noted, Counted, crowd, opposite, Around, Meets}
-use Rattle.opening.proofs.laws.Counting.{any-count, count_same}
+use Rattle.opening.specs.Scratch.{Plain, Chosen, Other, one, Is, Different, among, Held, place_of, turned_of, noted, Counted, crowd, opposite, Around, Meets}
+use Rattle.opening.proofs.laws.Counting.{any_count, count_same}
 
 -- ---- the four vertices of an element
 
 pub is_same : {a b : ℕ} → a ≡ b → Is a b 1
 is_same {a} {b} e = record { is = rw (eq-eqb a b e); small = omega arith }
 
-pub is-other : {a b : ℕ} → (a ≡ b → ⊥) → Is a b 0
-is-other {a} {b} e = record { is = rw (ne_eqb a b e); small = omega arith }
+pub is_other : {a b : ℕ} → (a ≡ b → ⊥) → Is a b 0
+is_other {a} {b} e = record { is = rw (ne_eqb a b e); small = omega arith }
 
 -- of four tests that exclude each other the sum says whether one holds
 abbrev Not : Bool → Bool → Type 0
@@ -47,13 +47,13 @@ sum_any false false true false x y z u v w = refl
 sum_any false false false true x y z u v w = refl
 sum_any false false false false x y z u v w = refl
 
-one-small : (b : Bool) → one b ≤ 1
-one-small true = omega arith
-one-small false = omega arith
+one_small : (b : Bool) → one b ≤ 1
+one_small true = omega arith
+one_small false = omega arith
 
-held-sum : (w : Four) (v : ℕ) {p q r t n : ℕ} → Different w → Is w.a v p → Is w.b v q → Is w.c v r → Is w.d v t → n ≡ p + q + r + t → Held w v n
+held_sum : (w : Four) (v : ℕ) {p q r t n : ℕ} → Different w → Is w.a v p → Is w.b v q → Is w.c v r → Is w.d v t → n ≡ p + q + r + t → Held w v n
 unfolding among
-held-sum w v {n = n} d p q r t e = record { is = is; small = rw is (one-small (eqb w.a v || (eqb w.b v || (eqb w.c v || eqb w.d v)))) }
+held_sum w v {n = n} d p q r t e = record { is = is; small = rw is (one_small (eqb w.a v || (eqb w.b v || (eqb w.c v || eqb w.d v)))) }
   where
     not : (a b : ℕ) → (a ≡ b → ⊥) → Not (eqb a v) (eqb b v)
     not a b x y z = x (eqb-true a v y ∙ sym (eqb-true b v z))
@@ -62,64 +62,64 @@ held-sum w v {n = n} d p q r t e = record { is = is; small = rw is (one-small (e
     is = rw (e, p.is, q.is, r.is, t.is) (sum_any _ _ _ _ (not _ _ d.ab) (not _ _ d.ac) (not _ _ d.ad) (not _ _ d.bc) (not _ _ d.bd) (not _ _ d.cd))
 
 pub summed : (w : Four) (v : ℕ) {p q r t : ℕ} → Different w → Is w.a v p → Is w.b v q → Is w.c v r → Is w.d v t → Held w v (p + q + r + t)
-summed w v d p q r t = held-sum w v d p q r t refl
+summed w v d p q r t = held_sum w v d p q r t refl
 
-pub plain-different : {vertices : ℕ} {E : Cells} (k : ℕ) → Plain vertices E → k < E.count → Different (fourOf E k)
-unfolding fourOf
-plain-different {E = E} k x h = record { ab = not 0 1 (omega arith) (omega arith) (omega arith); ac = not 0 2 (omega arith) (omega arith) (omega arith); ad = not 0 3 (omega arith) (omega arith) (omega arith); bc = not 1 2 (omega arith) (omega arith) (omega arith); bd = not 1 3 (omega arith) (omega arith) (omega arith); cd = not 2 3 (omega arith) (omega arith) (omega arith) }
+pub plain_different : {vertices : ℕ} {E : Cells} (k : ℕ) → Plain vertices E → k < E.count → Different (four_of E k)
+unfolding four_of
+plain_different {E = E} k x h = record { ab = not 0 1 (omega arith) (omega arith) (omega arith); ac = not 0 2 (omega arith) (omega arith) (omega arith); ad = not 0 3 (omega arith) (omega arith) (omega arith); bc = not 1 2 (omega arith) (omega arith) (omega arith); bd = not 1 3 (omega arith) (omega arith) (omega arith); cd = not 2 3 (omega arith) (omega arith) (omega arith) }
   where
     not : (p q : ℕ) → p < 4 → q < 4 → p < q → vertex E k p ≡ vertex E k q → ⊥
     not p q l m n e = absurd (omega (arith, x.apart k p q h l m e))
 
-pub read-different : (E : Cells) (k : ℕ) {w : Four} → Different (fourOf E k) → w ≡ fourOf E k → Different w
-read-different E k d e = rw e d
+pub read_different : (E : Cells) (k : ℕ) {w : Four} → Different (four_of E k) → w ≡ four_of E k → Different w
+read_different E k d e = rw e d
 
-pub place-first : (w : Four) {q : ℕ} → q ≡ 0 → w.a ≡ place_of w q
+pub place_first : (w : Four) {q : ℕ} → q ≡ 0 → w.a ≡ place_of w q
 unfolding place_of
-place-first w e = rw e
+place_first w e = rw e
 
-pub place-second : (w : Four) {q : ℕ} → q ≡ 1 → w.b ≡ place_of w q
+pub place_second : (w : Four) {q : ℕ} → q ≡ 1 → w.b ≡ place_of w q
 unfolding place_of
-place-second w e = rw e
+place_second w e = rw e
 
-pub place-third : (w : Four) {q : ℕ} → q ≡ 2 → w.c ≡ place_of w q
+pub place_third : (w : Four) {q : ℕ} → q ≡ 2 → w.c ≡ place_of w q
 unfolding place_of
-place-third w e = rw e
+place_third w e = rw e
 
-pub place-last : (w : Four) (q : ℕ) → (q ≡ 0 → ⊥) → (q ≡ 1 → ⊥) → (q ≡ 2 → ⊥) → w.d ≡ place_of w q
+pub place_last : (w : Four) (q : ℕ) → (q ≡ 0 → ⊥) → (q ≡ 1 → ⊥) → (q ≡ 2 → ⊥) → w.d ≡ place_of w q
 unfolding place_of
-place-last w zero x y z = absurd (x refl)
-place-last w (suc zero) x y z = absurd (y refl)
-place-last w (suc (suc zero)) x y z = absurd (z refl)
-place-last w (suc (suc (suc q))) x y z = refl
+place_last w zero x y z = absurd (x refl)
+place_last w (suc zero) x y z = absurd (y refl)
+place_last w (suc (suc zero)) x y z = absurd (z refl)
+place_last w (suc (suc (suc q))) x y z = refl
 
-pub ruleset placing = (place-first, place-second, place-third, place-last)
+pub ruleset placing = (place_first, place_second, place_third, place_last)
 
-place_is : (E : Cells) (k q : ℕ) → q < 4 → place_of (fourOf E k) q ≡ vertex E k q
-unfolding place_of fourOf
+place_is : (E : Cells) (k q : ℕ) → q < 4 → place_of (four_of E k) q ≡ vertex E k q
+unfolding place_of four_of
 place_is E k zero h = refl
 place_is E k (suc zero) h = refl
 place_is E k (suc (suc zero)) h = refl
 place_is E k (suc (suc (suc zero))) h = refl
 place_is E k (suc (suc (suc (suc q)))) h = absurd (omega arith)
 
-pub place-vertex : (E : Cells) {w : Four} {r v : ℕ} (k q : ℕ) → w ≡ fourOf E k → q < 4 → r ≡ place_of w q → v ≡ r → v ≡ vertex E k q
-place-vertex E k q e h g i = i ∙ g ∙ rw e (place_is E k q h)
+pub place_vertex : (E : Cells) {w : Four} {r v : ℕ} (k q : ℕ) → w ≡ four_of E k → q < 4 → r ≡ place_of w q → v ≡ r → v ≡ vertex E k q
+place_vertex E k q e h g i = i ∙ g ∙ rw e (place_is E k q h)
 
-pub turned-is : (w : Four) (m : ℕ) {a b c d : ℕ} → a ≡ place_of w m → b ≡ place_of w ((m + 1) % 4) → c ≡ place_of w ((m + 2) % 4) → d ≡ place_of w ((m + 3) % 4) → ◌≡◌ {A = Four} (record { a = a; b = b; c = c; d = d }) (turnedOf w m)
-unfolding turnedOf
-turned-is w m p q r t = rw (p, q, r, t)
+pub turned_is : (w : Four) (m : ℕ) {a b c d : ℕ} → a ≡ place_of w m → b ≡ place_of w ((m + 1) % 4) → c ≡ place_of w ((m + 2) % 4) → d ≡ place_of w ((m + 3) % 4) → ◌≡◌ {A = Four} (record { a = a; b = b; c = c; d = d }) (turned_of w m)
+unfolding turned_of
+turned_is w m p q r t = rw (p, q, r, t)
 
 -- the order of four tests does not matter: they may begin at any of them
 turned : (a b c d : Bool) → b && (c && (d && a)) ≡ a && (b && (c && d))
 turned a b c d = rw (and_comm a (b && (c && d))) (simp and_assoc)
 
-all-turned : (f : ℕ → Bool) (m : ℕ) → m < 4 → f m && (f ((m + 1) % 4) && (f ((m + 2) % 4) && f ((m + 3) % 4))) ≡ f 0 && (f 1 && (f 2 && f 3))
-all-turned f zero h = refl
-all-turned f (suc zero) h = turned (f 0) (f 1) (f 2) (f 3)
-all-turned f (suc (suc zero)) h = turned (f 1) (f 2) (f 3) (f 0) ∙ turned (f 0) (f 1) (f 2) (f 3)
-all-turned f (suc (suc (suc zero))) h = sym (turned (f 3) (f 0) (f 1) (f 2))
-all-turned f (suc (suc (suc (suc m)))) h = absurd (omega arith)
+all_turned : (f : ℕ → Bool) (m : ℕ) → m < 4 → f m && (f ((m + 1) % 4) && (f ((m + 2) % 4) && f ((m + 3) % 4))) ≡ f 0 && (f 1 && (f 2 && f 3))
+all_turned f zero h = refl
+all_turned f (suc zero) h = turned (f 0) (f 1) (f 2) (f 3)
+all_turned f (suc (suc zero)) h = turned (f 1) (f 2) (f 3) (f 0) ∙ turned (f 0) (f 1) (f 2) (f 3)
+all_turned f (suc (suc (suc zero))) h = sym (turned (f 3) (f 0) (f 1) (f 2))
+all_turned f (suc (suc (suc (suc m)))) h = absurd (omega arith)
 
 -- so may three
 rolled : (E : Cells) (k a b c : ℕ) → before E k b c a ≡ before E k a b c
@@ -139,43 +139,43 @@ module _ (E : Cells) (k : ℕ) where
   turn : (a b c : ℕ) → before E k (vertex E k b) (vertex E k c) (vertex E k a) ≡ before E k (vertex E k a) (vertex E k b) (vertex E k c)
   turn a b c = rolled E k (vertex E k a) (vertex E k b) (vertex E k c)
 
-  faces-at : (m : ℕ) {s : Seen} → m < 4 → At E k m s → Three E k m s
+  faces_at : (m : ℕ) {s : Seen} → m < 4 → At E k m s → Three E k m s
   unfolding opposite
-  faces-at zero h x = record { bc = x.bc; ac = x.ac; ab = x.ab }
-  faces-at (suc zero) h x = record { bc = x.bc ∙ turn 0 1 3; ac = x.ac ∙ turn 0 1 2; ab = x.ab }
-  faces-at (suc (suc zero)) h x = record { bc = x.bc ∙ sym (turn 2 0 1); ac = x.ac ∙ turn 1 2 3; ab = x.ab ∙ turn 0 2 3 }
-  faces-at (suc (suc (suc zero))) h x = record { bc = x.bc ∙ sym (turn 3 1 2); ac = x.ac ∙ sym (turn 3 0 2); ab = x.ab ∙ sym (turn 3 0 1) }
-  faces-at (suc (suc (suc (suc m)))) h x = absurd (omega arith)
+  faces_at zero h x = record { bc = x.bc; ac = x.ac; ab = x.ab }
+  faces_at (suc zero) h x = record { bc = x.bc ∙ turn 0 1 3; ac = x.ac ∙ turn 0 1 2; ab = x.ab }
+  faces_at (suc (suc zero)) h x = record { bc = x.bc ∙ sym (turn 2 0 1); ac = x.ac ∙ turn 1 2 3; ab = x.ab ∙ turn 0 2 3 }
+  faces_at (suc (suc (suc zero))) h x = record { bc = x.bc ∙ sym (turn 3 1 2); ac = x.ac ∙ sym (turn 3 0 2); ab = x.ab ∙ sym (turn 3 0 1) }
+  faces_at (suc (suc (suc (suc m)))) h x = absurd (omega arith)
 
   -- number 7 by the four faces
-  third-has : (o : ℕ) → o < 4 → leb 2 (opposite E k o) ≡ true → third E k ≡ true
+  third_has : (o : ℕ) → o < 4 → leb 2 (opposite E k o) ≡ true → third E k ≡ true
   unfolding third opposite
-  third-has zero h t = rw (t, or-true, or-true, or-true)
-  third-has (suc zero) h t = rw (t, or-true, or-true)
-  third-has (suc (suc zero)) h t = rw (t, or-true)
-  third-has (suc (suc (suc zero))) h t = rw t
-  third-has (suc (suc (suc (suc o)))) h t = absurd (omega arith)
+  third_has zero h t = rw (t, or-true, or-true, or-true)
+  third_has (suc zero) h t = rw (t, or-true, or-true)
+  third_has (suc (suc zero)) h t = rw (t, or-true)
+  third_has (suc (suc (suc zero))) h t = rw t
+  third_has (suc (suc (suc (suc o)))) h t = absurd (omega arith)
 
-  third-none : ((o : ℕ) → o < 4 → leb 2 (opposite E k o) ≡ false) → third E k ≡ false
+  third_none : ((o : ℕ) → o < 4 → leb 2 (opposite E k o) ≡ false) → third E k ≡ false
   unfolding third opposite
-  third-none h = rw (h 0 (omega arith), h 1 (omega arith), h 2 (omega arith), h 3 (omega arith))
+  third_none h = rw (h 0 (omega arith), h 1 (omega arith), h 2 (omega arith), h 3 (omega arith))
 
   module _ {m : ℕ} {s : Seen} (h : m < 4) (x : At E k m s) where
     three : Three E k m s
-    three = faces-at m h x
+    three = faces_at m h x
 
-    crowd-some : crowd s ≡ true → third E k ≡ true
+    crowd_some : crowd s ≡ true → third E k ≡ true
     unfolding crowd
-    crowd-some = go (ltb 1 s.ab) (ltb 1 s.ac) (ltb 1 s.bc) (rw three.ab) (rw three.ac) (rw three.bc)
+    crowd_some = go (ltb 1 s.ab) (ltb 1 s.ac) (ltb 1 s.bc) (rw three.ab) (rw three.ac) (rw three.bc)
       where
         go : (a b c : Bool) → a ≡ leb 2 (opposite E k ((m + 3) % 4)) → b ≡ leb 2 (opposite E k ((m + 2) % 4)) → c ≡ leb 2 (opposite E k ((m + 1) % 4)) → (a || (b || c)) ≡ true → third E k ≡ true
-        go true b c p q r t = third-has ((m + 3) % 4) (omega arith) (sym p)
-        go false true c p q r t = third-has ((m + 2) % 4) (omega arith) (sym q)
-        go false false c p q r t = third-has ((m + 1) % 4) (omega arith) (sym r ∙ t)
+        go true b c p q r t = third_has ((m + 3) % 4) (omega arith) (sym p)
+        go false true c p q r t = third_has ((m + 2) % 4) (omega arith) (sym q)
+        go false false c p q r t = third_has ((m + 1) % 4) (omega arith) (sym r ∙ t)
 
-    crowd-none : crowd s ≡ false → (o : ℕ) → o < 4 → (o ≡ m → ⊥) → leb 2 (opposite E k o) ≡ false
+    crowd_none : crowd s ≡ false → (o : ℕ) → o < 4 → (o ≡ m → ⊥) → leb 2 (opposite E k o) ≡ false
     unfolding crowd
-    crowd-none t o l d = go (ltb 1 s.ab) (ltb 1 s.ac) (ltb 1 s.bc) (rw three.ab) (rw three.ac) (rw three.bc) t (ℕ_discrete o ((m + 3) % 4)) (ℕ_discrete o ((m + 2) % 4))
+    crowd_none t o l d = go (ltb 1 s.ab) (ltb 1 s.ac) (ltb 1 s.bc) (rw three.ab) (rw three.ac) (rw three.bc) t (ℕ_discrete o ((m + 3) % 4)) (ℕ_discrete o ((m + 2) % 4))
       where
         go : (a b c : Bool) → a ≡ leb 2 (opposite E k ((m + 3) % 4)) → b ≡ leb 2 (opposite E k ((m + 2) % 4)) → c ≡ leb 2 (opposite E k ((m + 1) % 4)) → (a || (b || c)) ≡ false → Dec (o ≡ (m + 3) % 4) → Dec (o ≡ (m + 2) % 4) → leb 2 (opposite E k o) ≡ false
         go true b c p q r t e f = absurd (true≢false t)
@@ -185,25 +185,25 @@ module _ (E : Cells) (k : ℕ) where
         go false false c p q r t (no e) (no f) = let g : o ≡ (m + 1) % 4 = omega arith in rw g (sym r ∙ t)
 
   -- an element before k has the same vertices exactly if the number counted from place m of k is over 0
-  same-counted : {m : ℕ} {s : Seen} → m < 4 → At E k m s → ltb 0 s.all ≡ same E k
+  same_counted : {m : ℕ} {s : Seen} → m < 4 → At E k m s → ltb 0 s.all ≡ same E k
   unfolding same
-  same-counted {m} h x = rw (x.all, any-count, count_same _ _ k (λ j l. all-turned (λ i. has E j (vertex E k i)) m h))
+  same_counted {m} h x = rw (x.all, any_count, count_same _ _ k (λ j l. all_turned (λ i. has E j (vertex E k i)) m h))
 
-  around-counted : {m v a b c : ℕ} {s : Seen} {r : Bool} → m < 4 → v ≡ vertex E k m → a ≡ vertex E k ((m + 1) % 4) → b ≡ vertex E k ((m + 2) % 4) → c ≡ vertex E k ((m + 3) % 4) → Counted E k v a b c s → r ≡ crowd s → Around E k m (record { same = ltb 0 s.all; third = r })
-  around-counted {m} {s = s} h p q r t x e =
+  around_counted : {m v a b c : ℕ} {s : Seen} {r : Bool} → m < 4 → v ≡ vertex E k m → a ≡ vertex E k ((m + 1) % 4) → b ≡ vertex E k ((m + 2) % 4) → c ≡ vertex E k ((m + 3) % 4) → Counted E k v a b c s → r ≡ crowd s → Around E k m (record { same = ltb 0 s.all; third = r })
+  around_counted {m} {s = s} h p q r t x e =
       let y : At E k m s = rw (← p, ← q, ← r, ← t) x in
-      record { same = same-counted h y; some = λ g. crowd-some h y (sym e ∙ g); none = λ g. crowd-none h y (sym e ∙ g) }
+      record { same = same_counted h y; some = λ g. crowd_some h y (sym e ∙ g); none = λ g. crowd_none h y (sym e ∙ g) }
 
   -- the faces at place m, and then those at another place too
-  pub meets-near : {m : ℕ} {r : Met} → Around E k m r → r.third ≡ true → Meets E k r
-  meets-near x t = record { same = x.same; third = t ∙ sym (x.some t) }
+  pub meets_near : {m : ℕ} {r : Met} → Around E k m r → r.third ≡ true → Meets E k r
+  meets_near x t = record { same = x.same; third = t ∙ sym (x.some t) }
 
-  pub meets-far : {m o : ℕ} {n r : Met} → Around E k m n → n.third ≡ false → Other m o → Around E k o r → Meets E k r
-  meets-far {m} {o} {n} {r} x t d y = record { same = y.same; third = go r.third refl }
+  pub meets_far : {m o : ℕ} {n r : Met} → Around E k m n → n.third ≡ false → Other m o → Around E k o r → Meets E k r
+  meets_far {m} {o} {n} {r} x t d y = record { same = y.same; third = go r.third refl }
     where
       go : (b : Bool) → r.third ≡ b → b ≡ third E k
       go true e = sym (y.some e)
-      go false e = sym (third-none (λ i l. pick i l (ℕ_discrete i m)))
+      go false e = sym (third_none (λ i l. pick i l (ℕ_discrete i m)))
         where
           pick : (i : ℕ) → i < 4 → Dec (i ≡ m) → leb 2 (opposite E k i) ≡ false
           pick i l (yes q) = y.none e i l (λ z. d.apart (sym z ∙ q))
@@ -216,19 +216,19 @@ record Turned (E : Cells) (k m : ℕ) (t : Four) : Type 0 where
   c : t.c ≡ vertex E k ((m + 2) % 4)
   d : t.d ≡ vertex E k ((m + 3) % 4)
 
-read-turned : {E : Cells} {k m : ℕ} {w t : Four} → w ≡ fourOf E k → m < 4 → t ≡ turnedOf w m → Turned E k m t
-unfolding turnedOf
-read-turned {E} {k} {m} e h g = rw (g, e) (record { a = place_is E k m h; b = place_is E k ((m + 1) % 4) (omega arith); c = place_is E k ((m + 2) % 4) (omega arith); d = place_is E k ((m + 3) % 4) (omega arith) })
+read_turned : {E : Cells} {k m : ℕ} {w t : Four} → w ≡ four_of E k → m < 4 → t ≡ turned_of w m → Turned E k m t
+unfolding turned_of
+read_turned {E} {k} {m} e h g = rw (g, e) (record { a = place_is E k m h; b = place_is E k ((m + 1) % 4) (omega arith); c = place_is E k ((m + 2) % 4) (omega arith); d = place_is E k ((m + 3) % 4) (omega arith) })
 
-pub turned-there : {vertices v : ℕ} {E : Cells} {w t : Four} (k m : ℕ) → Plain vertices E → k < E.count → w ≡ fourOf E k → m < 4 → t ≡ turnedOf w m → v ≡ t.a → v < vertices
-turned-there {E = E} k m x h e l g i = let u = read-turned {E = E} {k = k} {m = m} e l g in omega (arith, i, u.a, x.there k m h l)
+pub turned_there : {vertices v : ℕ} {E : Cells} {w t : Four} (k m : ℕ) → Plain vertices E → k < E.count → w ≡ four_of E k → m < 4 → t ≡ turned_of w m → v ≡ t.a → v < vertices
+turned_there {E = E} k m x h e l g i = let u = read_turned {E = E} {k = k} {m = m} e l g in omega (arith, i, u.a, x.there k m h l)
 
-pub around-turned : (E : Cells) (k m : ℕ) {v : ℕ} {w t : Four} {s : Seen} {r : Bool} → w ≡ fourOf E k → m < 4 → t ≡ turnedOf w m → v ≡ t.a → Counted E k v t.b t.c t.d s → r ≡ crowd s → Around E k m (record { same = ltb 0 s.all; third = r })
-around-turned E k m e h g i x f = let u = read-turned {E = E} {k = k} {m = m} e h g in around-counted E k h (i ∙ u.a) u.b u.c u.d x f
+pub around_turned : (E : Cells) (k m : ℕ) {v : ℕ} {w t : Four} {s : Seen} {r : Bool} → w ≡ four_of E k → m < 4 → t ≡ turned_of w m → v ≡ t.a → Counted E k v t.b t.c t.d s → r ≡ crowd s → Around E k m (record { same = ltb 0 s.all; third = r })
+around_turned E k m e h g i x f = let u = read_turned {E = E} {k = k} {m = m} e h g in around_counted E k h (i ∙ u.a) u.b u.c u.d x f
 
 -- a place other than m, chosen in two steps
-pub other-chosen : {m p q : ℕ} → m < 4 → Chosen ((m + 1) % 4) ((m + 2) % 4) p → Chosen p ((m + 3) % 4) q → Other m q
-other-chosen {m} {p} {q} h x y = record { low = y.low; apart = go x.one y.one }
+pub other_chosen : {m p q : ℕ} → m < 4 → Chosen ((m + 1) % 4) ((m + 2) % 4) p → Chosen p ((m + 3) % 4) q → Other m q
+other_chosen {m} {p} {q} h x y = record { low = y.low; apart = go x.one y.one }
   where
     go : (p ≡ (m + 1) % 4) ⊎ (p ≡ (m + 2) % 4) → (q ≡ p) ⊎ (q ≡ (m + 3) % 4) → q ≡ m → ⊥
     go (inl e) (inl g) z = omega arith
@@ -247,17 +247,17 @@ ones false false = refl
 pub product_small : (x y : ℕ) → x ≤ 1 → y ≤ 1 → x * y ≤ 1
 product_small x y h l = le_trans (mul-le-mul_right y h) (omega arith)
 
-pub product-fits : (x y : ℕ) → x ≤ 1 → y ≤ 1 → Fits w32 (x * y)
-product-fits x y h l = Fits-below tt (product_small x y h l)
+pub product_fits : (x y : ℕ) → x ≤ 1 → y ≤ 1 → Fits w32 (x * y)
+product_fits x y h l = Fits-below tt (product_small x y h l)
 
-pub sum_fits : (n p : ℕ) → n ≤ 4 * mostRows → p ≤ 1 → Fits w32 (n + p)
+pub sum_fits : (n p : ℕ) → n ≤ 4 * most_rows → p ≤ 1 → Fits w32 (n + p)
 sum_fits n p h l = Fits-below {n = 400001} tt (omega arith)
 
-pub ruleset products = (product_small, product-fits, sum_fits)
+pub ruleset products = (product_small, product_fits, sum_fits)
 
-pub noted-held : (E : Cells) {w : Four} (j : ℕ) {a b c x y z : ℕ} (s : Seen) → w ≡ fourOf E j → Held w a x → Held w b y → Held w c z → ◌≡◌ {A = Seen} (record { all = s.all + x * (y * z); ab = s.ab + x * y; ac = s.ac + x * z; bc = s.bc + y * z }) (noted (has E j a) (has E j b) (has E j c) s)
-unfolding noted has among fourOf
-noted-held E {w} j {a} {b} {c} s k e f g = rw (e.is, f.is, g.is) (rw k (go (has E j a) (has E j b) (has E j c)))
+pub noted_held : (E : Cells) {w : Four} (j : ℕ) {a b c x y z : ℕ} (s : Seen) → w ≡ four_of E j → Held w a x → Held w b y → Held w c z → ◌≡◌ {A = Seen} (record { all = s.all + x * (y * z); ab = s.ab + x * y; ac = s.ac + x * z; bc = s.bc + y * z }) (noted (has E j a) (has E j b) (has E j c) s)
+unfolding noted has among four_of
+noted_held E {w} j {a} {b} {c} s k e f g = rw (e.is, f.is, g.is) (rw k (go (has E j a) (has E j b) (has E j c)))
   where
     go : (p q r : Bool) → ◌≡◌ {A = Seen} (record { all = s.all + one p * (one q * one r); ab = s.ab + one p * one q; ac = s.ac + one p * one r; bc = s.bc + one q * one r }) (record { all = s.all + one (p && (q && r)); ab = s.ab + one (p && q); ac = s.ac + one (p && r); bc = s.bc + one (q && r) })
     go p q r = rw (ones q r, ones p q, ones p r, ones p (q && r))

@@ -6,40 +6,40 @@ use native.Mathlib.Nat.{add-zero, add_assoc}
 use native.Mathlib.Omega.{arith}
 use lib.ListN.{length, get_or, replicate, length-replicate}
 use Rattle.chain.specs.Chain.{Indexed, pushed}
-use Rattle.chain.proofs.laws.Clearing.{zeros-at}
-use Rattle.chain.proofs.laws.Pushed.{pushed-length}
-use Rattle.chain.proofs.laws.Index.{indexed-none, indexed-push-one}
+use Rattle.chain.proofs.laws.Clearing.{zeros_at}
+use Rattle.chain.proofs.laws.Pushed.{pushed_length}
+use Rattle.chain.proofs.laws.Index.{indexed_none, indexed_push_one}
 use Rattle.intake.specs.Cells.{Cells}
 use Rattle.intake.specs.Causes.{vertex}
-use Rattle.opening.specs.Scratch.{linksAt, paintLength, slot, Plain, Filled, Clear, Moderate, Given}
+use Rattle.opening.specs.Scratch.{links_at, paint_length, slot, Plain, Filled, Clear, Moderate, Given}
 
 -- numbers behind the links do not matter to the index
-pub indexed-kept : {key : ℕ → ℕ} {n base : ℕ} {index next : List ℕ} → length next ≡ length index → ((j : ℕ) → j < base + n → get_or next j 0 ≡ get_or index j 0) → Indexed key n base index → Indexed key n base next
-indexed-kept {base = base} l same x = record { room = rw l x.room; heads = λ v h. same v (omega arith) ∙ x.heads v h; links = λ i h. same (base + i) (omega arith) ∙ x.links i h }
+pub indexed_kept : {key : ℕ → ℕ} {n base : ℕ} {index next : List ℕ} → length next ≡ length index → ((j : ℕ) → j < base + n → get_or next j 0 ≡ get_or index j 0) → Indexed key n base index → Indexed key n base next
+indexed_kept {base = base} l same x = record { room = rw l x.room; heads = λ v h. same v (omega arith) ∙ x.heads v h; links = λ i h. same (base + i) (omega arith) ∙ x.links i h }
 
 -- ---- tables of zeros, over any length, so that none is ever written out
 
-pub zeros-count : (n : ℕ) → n ≡ length (replicate {A = ℕ} n 0)
-zeros-count n = sym (length-replicate n 0)
+pub zeros_count : (n : ℕ) → n ≡ length (replicate {A = ℕ} n 0)
+zeros_count n = sym (length-replicate n 0)
 
-pub zeros-clear : (n : ℕ) → n ≡ paintLength → Clear (replicate n 0)
-zeros-clear n e = record { size = length-replicate n 0 ∙ e; zeros = zeros-at n }
+pub zeros_clear : (n : ℕ) → n ≡ paint_length → Clear (replicate n 0)
+zeros_clear n e = record { size = length-replicate n 0 ∙ e; zeros = zeros_at n }
 
-zeros-filled : (n : ℕ) (E : Cells) → linksAt + 4 * E.count ≤ n → Filled E 0 (replicate n 0)
-zeros-filled n E h =
+zeros_filled : (n : ℕ) (E : Cells) → links_at + 4 * E.count ≤ n → Filled E 0 (replicate n 0)
+zeros_filled n E h =
     record {
       room = rw length-replicate h;
-      index = indexed-none (slot E) linksAt (replicate n 0) (rw length-replicate (omega arith)) (λ v l. zeros-at n v);
+      index = indexed_none (slot E) links_at (replicate n 0) (rw length-replicate (omega arith)) (λ v l. zeros_at n v);
     }
 
-pub given-zeros : {coordinates n : ℕ} {E : Cells} → Moderate coordinates E.count → linksAt + 4 * E.count ≤ n → Given coordinates E (replicate n 0)
-given-zeros {n = n} {E} m h = record { moderate = m; empty = zeros-filled n E h }
+pub given_zeros : {coordinates n : ℕ} {E : Cells} → Moderate coordinates E.count → links_at + 4 * E.count ≤ n → Given coordinates E (replicate n 0)
+given_zeros {n = n} {E} m h = record { moderate = m; empty = zeros_filled n E h }
 
-pub given-small : {coordinates : ℕ} {E : Cells} → Moderate coordinates E.count → E.count ≤ 10000 → Given coordinates E (replicate 60000 0)
-given-small m h = given-zeros {n = 60000} m (omega arith)
+pub given_small : {coordinates : ℕ} {E : Cells} → Moderate coordinates E.count → E.count ≤ 10000 → Given coordinates E (replicate 60000 0)
+given_small m h = given_zeros {n = 60000} m (omega arith)
 
-pub given-large : {coordinates : ℕ} {E : Cells} → Moderate coordinates E.count → Given coordinates E (replicate 420000 0)
-given-large m = given-zeros {n = 420000} m (omega (arith, m.few-elements))
+pub given_large : {coordinates : ℕ} {E : Cells} → Moderate coordinates E.count → Given coordinates E (replicate 420000 0)
+given_large m = given_zeros {n = 420000} m (omega (arith, m.few_elements))
 
 -- ---- one corner slot more
 
@@ -49,17 +49,17 @@ slot_at E k q h =
     let p : (4 * k + q) % 4 ≡ q = omega arith in
     rw (j, p)
 
-pub filling-start : {E : Cells} {index : List ℕ} (k : ℕ) → Filled E (4 * k) index → Filled E (4 * k + 0) index
-filling-start k f = rw add-zero f
+pub filling_start : {E : Cells} {index : List ℕ} (k : ℕ) → Filled E (4 * k) index → Filled E (4 * k + 0) index
+filling_start k f = rw add-zero f
 
-pub filling-next : {vertices : ℕ} {E : Cells} {index next : List ℕ} (k q : ℕ) {key : ℕ} → Plain vertices E → Filled E (4 * k + q) index → k < E.count → q < 4 → key ≡ vertex E k q → next ≡ pushed index linksAt (4 * k + q) key → Filled E (4 * k + (q + 1)) next
-filling-next {E = E} k q x f h l e g =
+pub filling_next : {vertices : ℕ} {E : Cells} {index next : List ℕ} (k q : ℕ) {key : ℕ} → Plain vertices E → Filled E (4 * k + q) index → k < E.count → q < 4 → key ≡ vertex E k q → next ≡ pushed index links_at (4 * k + q) key → Filled E (4 * k + (q + 1)) next
+filling_next {E = E} k q x f h l e g =
     rw (g, e, ← slot_at E k q l, ← add_assoc (4 * k) q 1)
     (record {
-      room = rw pushed-length f.room;
-      index = indexed-push-one f.index (omega (arith, slot_at E k q l, x.there k q h l, x.most)) (omega (arith, f.room)) (omega (arith, x.few));
+      room = rw pushed_length f.room;
+      index = indexed_push_one f.index (omega (arith, slot_at E k q l, x.there k q h l, x.most)) (omega (arith, f.room)) (omega (arith, x.few));
     })
 
 -- the four slots of element k are pushed
-pub filling-end : {E : Cells} {index : List ℕ} (k q : ℕ) → Filled E (4 * k + q) index → q ≤ 4 → 4 ≤ q → Filled E (4 * (k + 1)) index
-filling-end k q f h l = let e : 4 * (k + 1) ≡ 4 * k + q = omega arith in rw e f
+pub filling_end : {E : Cells} {index : List ℕ} (k q : ℕ) → Filled E (4 * k + q) index → q ≤ 4 → 4 ≤ q → Filled E (4 * (k + 1)) index
+filling_end k q f h l = let e : 4 * (k + 1) ≡ 4 * k + q = omega arith in rw e f

@@ -12,12 +12,12 @@ use Rattle.intake.specs.declared.answer.Found.TheVariants.{At, Nowhere}
 use Rattle.intake.specs.declared.answer.Verdict.{Verdict}
 use Rattle.intake.specs.declared.answer.Verdict.TheVariants.{Refused, Passed}
 use Rattle.intake.specs.Search.{first}
-use Rattle.intake.specs.Causes.{wrongInput, wrongLent, noRoom, unusable, missing, double, same, third}
+use Rattle.intake.specs.Causes.{wrong_input, wrong_lent, has_no_room, unusable, missing, double, same, third}
 use Rattle.intake.specs.Verdict.{when, at, fitting, plain}
 use Rattle.opening.specs.Opening.{late, judged}
 use Rattle.opening.specs.Scratch.{Moderate, Clear, Ready, Plain, Coloured, Sifted, Judged, Passing, Settled}
-use Rattle.opening.proofs.laws.Passed.{plain_cells, few-passed, roomy-passed}
-use Rattle.opening.proofs.laws.Verdicts.{garish-last}
+use Rattle.opening.proofs.laws.Passed.{plain_cells, few_passed, roomy_passed}
+use Rattle.opening.proofs.laws.Verdicts.{garish_last}
 
 clash : {X : Type 0} {n p : ℕ} {r : Verdict} → r ≡ Refused n p → r ≡ Passed → X
 clash a b = let z : ◌≡◌ {A = ℕ} 0 1 = cc in absurd (omega arith)
@@ -28,42 +28,42 @@ left_false false b h = refl
 
 -- ---- one test
 
-when-passed : (b : Bool) (n : ℕ) (next : Verdict) → when b n next ≡ Passed → (b ≡ false) × (next ≡ Passed)
-when-passed true n next e = clash refl e
-when-passed false n next e = (refl, e)
+when_passed : (b : Bool) (n : ℕ) (next : Verdict) → when b n next ≡ Passed → (b ≡ false) × (next ≡ Passed)
+when_passed true n next e = clash refl e
+when_passed false n next e = (refl, e)
 
-when-refused : (b : Bool) (n : ℕ) (next next' : Verdict) (k p : ℕ) → (next ≡ Refused k p → next' ≡ Refused k p) → when b n next ≡ Refused k p → when b n next' ≡ Refused k p
-when-refused true n next next' k p h e = e
-when-refused false n next next' k p h e = h e
+when_refused : (b : Bool) (n : ℕ) (next next' : Verdict) (k p : ℕ) → (next ≡ Refused k p → next' ≡ Refused k p) → when b n next ≡ Refused k p → when b n next' ≡ Refused k p
+when_refused true n next next' k p h e = e
+when_refused false n next next' k p h e = h e
 
-at-passed : (f : Found) (n : ℕ) (next : Verdict) → at f n next ≡ Passed → (f ≡ Nowhere) × (next ≡ Passed)
-at-passed (At q) n next e = clash refl e
-at-passed Nowhere n next e = (refl, e)
+at_passed : (f : Found) (n : ℕ) (next : Verdict) → at f n next ≡ Passed → (f ≡ Nowhere) × (next ≡ Passed)
+at_passed (At q) n next e = clash refl e
+at_passed Nowhere n next e = (refl, e)
 
-at-refused : (f : Found) (n : ℕ) (next next' : Verdict) (k p : ℕ) → (next ≡ Refused k p → next' ≡ Refused k p) → at f n next ≡ Refused k p → at f n next' ≡ Refused k p
-at-refused (At q) n next next' k p h e = e
-at-refused Nowhere n next next' k p h e = h e
+at_refused : (f : Found) (n : ℕ) (next next' : Verdict) (k p : ℕ) → (next ≡ Refused k p → next' ≡ Refused k p) → at f n next ≡ Refused k p → at f n next' ≡ Refused k p
+at_refused (At q) n next next' k p h e = e
+at_refused Nowhere n next next' k p h e = h e
 
 -- ---- tests 1 and 2, and tests 3 to 5
 
 -- lengths that passed
 record Lengths (f e p r w : ℕ) : Type 0 where
-  input : wrongInput f e || wrongLent p r w ≡ false
-  room : noRoom (f / 3) (e / 4) p r w ≡ false
+  input : wrong_input f e || wrong_lent p r w ≡ false
+  room : has_no_room (f / 3) (e / 4) p r w ≡ false
 
 module _ (f e p r w : ℕ) where
-  lengths-passed : fitting f e p r w Passed ≡ Passed → Lengths f e p r w
+  lengths_passed : fitting f e p r w Passed ≡ Passed → Lengths f e p r w
   unfolding fitting
-  lengths-passed h = let (a, b) = when-passed (wrongInput f e || wrongLent p r w) 1 (when (noRoom (f / 3) (e / 4) p r w) 2 Passed) h in record { input = a; room = (when-passed (noRoom (f / 3) (e / 4) p r w) 2 Passed b).0 }
+  lengths_passed h = let (a, b) = when_passed (wrong_input f e || wrong_lent p r w) 1 (when (has_no_room (f / 3) (e / 4) p r w) 2 Passed) h in record { input = a; room = (when_passed (has_no_room (f / 3) (e / 4) p r w) 2 Passed b).0 }
 
-  lengths-next : Lengths f e p r w → (next : Verdict) → fitting f e p r w next ≡ next
+  lengths_next : Lengths f e p r w → (next : Verdict) → fitting f e p r w next ≡ next
   unfolding fitting
-  lengths-next l next = rw (l.input, l.room)
+  lengths_next l next = rw (l.input, l.room)
 
-  lengths-refused : (next : Verdict) (k q : ℕ) → fitting f e p r w Passed ≡ Refused k q → fitting f e p r w next ≡ Refused k q
+  lengths_refused : (next : Verdict) (k q : ℕ) → fitting f e p r w Passed ≡ Refused k q → fitting f e p r w next ≡ Refused k q
   unfolding fitting
-  lengths-refused next k q =
-      when-refused (wrongInput f e || wrongLent p r w) 1 _ _ k q (when-refused (noRoom (f / 3) (e / 4) p r w) 2 Passed next k q (λ h. clash h refl))
+  lengths_refused next k q =
+      when_refused (wrong_input f e || wrong_lent p r w) 1 _ _ k q (when_refused (has_no_room (f / 3) (e / 4) p r w) 2 Passed next k q (λ h. clash h refl))
 
 -- coordinates and vertex numbers that passed
 record Numbers (F : List Float) (E : Cells) : Type 0 where
@@ -72,93 +72,93 @@ record Numbers (F : List Float) (E : Cells) : Type 0 where
   single : first (double E) E.count ≡ Nowhere
 
 module _ (F : List Float) (E : Cells) where
-  numbers-passed : plain F E Passed ≡ Passed → Numbers F E
+  numbers_passed : plain F E Passed ≡ Passed → Numbers F E
   unfolding plain
-  numbers-passed h =
-      let (a, b) = at-passed (first (unusable F) (length F / 3)) 3 (at (first (missing (length F / 3) E) E.count) 4 (at (first (double E) E.count) 5 Passed)) h in
-      let (c, d) = at-passed (first (missing (length F / 3) E) E.count) 4 (at (first (double E) E.count) 5 Passed) b in
-      record { usable = a; there = c; single = (at-passed (first (double E) E.count) 5 Passed d).0 }
+  numbers_passed h =
+      let (a, b) = at_passed (first (unusable F) (length F / 3)) 3 (at (first (missing (length F / 3) E) E.count) 4 (at (first (double E) E.count) 5 Passed)) h in
+      let (c, d) = at_passed (first (missing (length F / 3) E) E.count) 4 (at (first (double E) E.count) 5 Passed) b in
+      record { usable = a; there = c; single = (at_passed (first (double E) E.count) 5 Passed d).0 }
 
-  numbers-next : Numbers F E → (next : Verdict) → plain F E next ≡ next
+  numbers_next : Numbers F E → (next : Verdict) → plain F E next ≡ next
   unfolding plain
-  numbers-next n next = rw (n.usable, n.there, n.single)
+  numbers_next n next = rw (n.usable, n.there, n.single)
 
-  numbers-refused : (next : Verdict) (k q : ℕ) → plain F E Passed ≡ Refused k q → plain F E next ≡ Refused k q
+  numbers_refused : (next : Verdict) (k q : ℕ) → plain F E Passed ≡ Refused k q → plain F E next ≡ Refused k q
   unfolding plain
-  numbers-refused next k q =
-      at-refused (first (unusable F) (length F / 3)) 3 _ _ k q
-      (at-refused (first (missing (length F / 3) E) E.count) 4 _ _ k q (at-refused (first (double E) E.count) 5 Passed next k q (λ h. clash h refl)))
+  numbers_refused next k q =
+      at_refused (first (unusable F) (length F / 3)) 3 _ _ k q
+      (at_refused (first (missing (length F / 3) E) E.count) 4 _ _ k q (at_refused (first (double E) E.count) 5 Passed next k q (λ h. clash h refl)))
 
 -- ---- tests 6 to 8
 
 -- the verdict of tests 6 and 7 stands where it refuses
-pub judged-refused : {vertices n p : ℕ} {E : Cells} {index paint : List ℕ} {r : Verdict} → Sifted E r index → r ≡ Refused n p → Clear paint → Judged vertices E (Refused n p) paint
+pub judged_refused : {vertices n p : ℕ} {E : Cells} {index paint : List ℕ} {r : Verdict} → Sifted E r index → r ≡ Refused n p → Clear paint → Judged vertices E (Refused n p) paint
 unfolding late
-judged-refused {vertices} {n} {p} {E} s e c =
+judged_refused {vertices} {n} {p} {E} s e c =
     record {
-      answer = sym (at-refused (first (same E) E.count) 6 _ _ n p (at-refused (first (third E) E.count) 7 Passed _ n p (λ h. clash h refl)) (sym s.answer ∙ e));
+      answer = sym (at_refused (first (same E) E.count) 6 _ _ n p (at_refused (first (third E) E.count) 7 Passed _ n p (λ h. clash h refl)) (sym s.answer ∙ e));
       size = c.size;
       painted = λ h. clash refl h;
     }
 
 -- and number 8 is next where they pass
-pub sifted-ready : {E : Cells} {index : List ℕ} {r : Verdict} → Sifted E r index → r ≡ Passed → Ready E index
-sifted-ready s = s.ready
+pub sifted_ready : {E : Cells} {index : List ℕ} {r : Verdict} → Sifted E r index → r ≡ Passed → Ready E index
+sifted_ready s = s.ready
 
-pub judged-coloured : {vertices : ℕ} {E : Cells} {index paint : List ℕ} {f : Found} {q r : Verdict} → Sifted E q index → q ≡ Passed → Coloured vertices E f paint → r ≡ at f 8 Passed → Judged vertices E r paint
-judged-coloured {vertices} {E} {f = f} s p c e =
-    let (a, b) = at-passed (first (same E) E.count) 6 (at (first (third E) E.count) 7 Passed) (sym s.answer ∙ p) in
+pub judged_coloured : {vertices : ℕ} {E : Cells} {index paint : List ℕ} {f : Found} {q r : Verdict} → Sifted E q index → q ≡ Passed → Coloured vertices E f paint → r ≡ at f 8 Passed → Judged vertices E r paint
+judged_coloured {vertices} {E} {f = f} s p c e =
+    let (a, b) = at_passed (first (same E) E.count) 6 (at (first (third E) E.count) 7 Passed) (sym s.answer ∙ p) in
     record {
-      answer = e ∙ rw c.answer (sym (garish-last E vertices a (at-passed (first (third E) E.count) 7 Passed b).0));
+      answer = e ∙ rw c.answer (sym (garish_last E vertices a (at_passed (first (third E) E.count) 7 Passed b).0));
       size = c.size;
-      painted = λ h. c.painted (at-passed f 8 Passed (sym e ∙ h)).0;
+      painted = λ h. c.painted (at_passed f 8 Passed (sym e ∙ h)).0;
     }
 
 -- ---- tests 3 to 8
 
 module _ (F : List Float) (E : Cells) where
-  pub passing-refused : {n p : ℕ} {paint : List ℕ} {r : Verdict} → r ≡ plain F E Passed → r ≡ Refused n p → Clear paint → Passing F E (Refused n p) paint
-  passing-refused {n} {p} e f s = record { answer = sym (numbers-refused F E _ n p (sym e ∙ f)); size = s.size; plain = λ h. clash refl h; painted = λ h. clash refl h }
+  pub passing_refused : {n p : ℕ} {paint : List ℕ} {r : Verdict} → r ≡ plain F E Passed → r ≡ Refused n p → Clear paint → Passing F E (Refused n p) paint
+  passing_refused {n} {p} e f s = record { answer = sym (numbers_refused F E _ n p (sym e ∙ f)); size = s.size; plain = λ h. clash refl h; painted = λ h. clash refl h }
 
   module _ (m : Moderate (length F) E.count) {q : Verdict} (e : q ≡ plain F E Passed) (passed : q ≡ Passed) where
     numbers : Numbers F E
-    numbers = numbers-passed F E (sym e ∙ passed)
+    numbers = numbers_passed F E (sym e ∙ passed)
 
-    pub plain-given : Plain (length F / 3) E
-    plain-given = plain_cells (length F / 3) E m.few-elements (omega (arith, m.few-coordinates)) numbers.there numbers.single
+    pub plain_given : Plain (length F / 3) E
+    plain_given = plain_cells (length F / 3) E m.few_elements (omega (arith, m.few_coordinates)) numbers.there numbers.single
 
-    pub passing-judged : {r : Verdict} {paint : List ℕ} → Judged (length F / 3) E r paint → Passing F E r paint
-    passing-judged j = record { answer = j.answer ∙ sym (numbers-next F E numbers _); size = j.size; plain = λ h. plain-given; painted = j.painted }
+    pub passing_judged : {r : Verdict} {paint : List ℕ} → Judged (length F / 3) E r paint → Passing F E r paint
+    passing_judged j = record { answer = j.answer ∙ sym (numbers_next F E numbers _); size = j.size; plain = λ h. plain_given; painted = j.painted }
 
 -- ---- all tests
 
 module _ (F : List Float) (E : List ℕ) (points records rows : ℕ) where
-  pub settled-lengths : {n p : ℕ} {paint : List ℕ} → fitting (length F) (length E) points records rows Passed ≡ Refused n p → Clear paint
+  pub settled_lengths : {n p : ℕ} {paint : List ℕ} → fitting (length F) (length E) points records rows Passed ≡ Refused n p → Clear paint
       → Settled F E points records rows (Refused n p) paint
   unfolding judged
-  settled-lengths {n} {p} e s = record { answer = sym (lengths-refused (length F) (length E) points records rows _ n p e); size = s.size; storable = λ h. clash refl h }
+  settled_lengths {n} {p} e s = record { answer = sym (lengths_refused (length F) (length E) points records rows _ n p e); size = s.size; storable = λ h. clash refl h }
 
   module _ {q : Verdict} (e : q ≡ fitting (length F) (length E) points records rows Passed) (passed : q ≡ Passed) where
     lengths : Lengths (length F) (length E) points records rows
-    lengths = lengths-passed (length F) (length E) points records rows (sym e ∙ passed)
+    lengths = lengths_passed (length F) (length E) points records rows (sym e ∙ passed)
 
-    right-input : wrongInput (length F) (length E) ≡ false
-    right-input = left_false (wrongInput (length F) (length E)) (wrongLent points records rows) lengths.input
+    right_input : wrong_input (length F) (length E) ≡ false
+    right_input = left_false (wrong_input (length F) (length E)) (wrong_lent points records rows) lengths.input
 
     -- what the other tests rely on
     pub moderate : Moderate (length F) (quads E).count
-    moderate = let (f, e) = few-passed (length F) (length E) right-input in record { few-coordinates = f; few-elements = e }
+    moderate = let (f, e) = few_passed (length F) (length E) right_input in record { few_coordinates = f; few_elements = e }
 
-    pub settled-given : {r : Verdict} {paint : List ℕ} → Passing F (quads E) r paint → Settled F E points records rows r paint
+    pub settled_given : {r : Verdict} {paint : List ℕ} → Passing F (quads E) r paint → Settled F E points records rows r paint
     unfolding judged
-    settled-given {r} {paint} j =
+    settled_given {r} {paint} j =
         record {
-          answer = j.answer ∙ sym (lengths-next (length F) (length E) points records rows lengths _);
+          answer = j.answer ∙ sym (lengths_next (length F) (length E) points records rows lengths _);
           size = j.size;
           storable = λ h. record {
             plain = j.plain h;
             size = j.size;
             painted = j.painted h;
-            room = roomy-passed (length F) (length E) points records rows right-input lengths.room;
+            room = roomy_passed (length F) (length E) points records rows right_input lengths.room;
           };
         }

@@ -13,11 +13,11 @@ use Rattle.intake.specs.declared.answer.Found.TheVariants.{Nowhere}
 use Rattle.intake.specs.declared.answer.Verdict.{Verdict}
 use Rattle.intake.specs.declared.answer.Verdict.TheVariants.{Refused, Passed}
 use Rattle.opening.specs.declared.faces.Met.{Met}
-use Rattle.intake.specs.Search.{orAt, first}
+use Rattle.intake.specs.Search.{or_at, first}
 use Rattle.intake.specs.Causes.{same, third}
 use Rattle.intake.specs.Verdict.{at}
 use Rattle.opening.specs.Scratch.{Plain, Filled, Meets, Sifted}
-use Rattle.intake.proofs.laws.Search.{first-start, first-passed, first-stopped}
+use Rattle.intake.proofs.laws.Search.{first_start, first_passed, first_stopped}
 
 pub record Sifting (E : Cells) (k : ℕ) (t : Found) (index : List ℕ) : Type 0 where
   pub within : k ≤ E.count
@@ -25,34 +25,34 @@ pub record Sifting (E : Cells) (k : ℕ) (t : Found) (index : List ℕ) : Type 0
   pub kept : t ≡ first (third E) k
   pub filled : Filled E (4 * k) index
 
-first_next : (test : ℕ → Bool) (k : ℕ) → orAt (first test k) (test k) k ≡ first test (k + 1)
+first_next : (test : ℕ → Bool) (k : ℕ) → or_at (first test k) (test k) k ≡ first test (k + 1)
 unfolding first
 first_next test k = rw (add-one, first)
 
-pub sifting-start : {E : Cells} {index : List ℕ} → Filled E 0 index → Sifting E 0 Nowhere index
-sifting-start b = record { within = zero-le; none = first-start _; kept = sym (first-start _); filled = b }
+pub sifting_start : {E : Cells} {index : List ℕ} → Filled E 0 index → Sifting E 0 Nowhere index
+sifting_start b = record { within = zero-le; none = first_start _; kept = sym (first_start _); filled = b }
 
 module _ {E : Cells} {index : List ℕ} {k : ℕ} {t : Found} (s : Sifting E k t index) where
   -- number 6 is answered at once
-  pub sifting-same : {m : Met} → k < E.count → Meets E k m → m.same ≡ true → Sifted E (Refused 6 k) index
-  sifting-same h x e =
+  pub sifting_same : {m : Met} → k < E.count → Meets E k m → m.same ≡ true → Sifted E (Refused 6 k) index
+  sifting_same h x e =
       record {
-        answer = rw (first-stopped (same E) k E.count s.none (sym x.same ∙ e) h);
+        answer = rw (first_stopped (same E) k E.count s.none (sym x.same ∙ e) h);
         ready = λ p. let z : ◌≡◌ {A = ℕ} 0 1 = cc in absurd (omega arith);
       }
 
-  pub sifting-next : {m : Met} {u : Found} {next : List ℕ} → k < E.count → Meets E k m → m.same ≡ false → u ≡ orAt t m.third k → Filled E (4 * (k + 1)) next → Sifting E (k + 1) u next
-  sifting-next h x e g f =
+  pub sifting_next : {m : Met} {u : Found} {next : List ℕ} → k < E.count → Meets E k m → m.same ≡ false → u ≡ or_at t m.third k → Filled E (4 * (k + 1)) next → Sifting E (k + 1) u next
+  sifting_next h x e g f =
       record {
         within = omega arith;
-        none = first-passed (same E) k s.none (sym x.same ∙ e);
+        none = first_passed (same E) k s.none (sym x.same ∙ e);
         kept = g ∙ rw (s.kept, x.third) (first_next (third E) k);
         filled = f;
       }
 
   -- number 7 after all of them
-  pub sifting-end : {vertices : ℕ} {r : Verdict} → Plain vertices E → E.count ≤ k → r ≡ at t 7 Passed → Sifted E r index
-  sifting-end x h e =
+  pub sifting_end : {vertices : ℕ} {r : Verdict} → Plain vertices E → E.count ≤ k → r ≡ at t 7 Passed → Sifted E r index
+  sifting_end x h e =
       let n : k ≡ E.count = le_antisymm s.within h in
       record {
         answer = e ∙ rw s.kept (ended E.count n);

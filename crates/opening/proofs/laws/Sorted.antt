@@ -21,22 +21,22 @@ module _ (Q : ℕ → ℕ → ℕ → ℕ → Type 0) (u : Unordered Q) (f : ℕ
   first_two : Q a b c d → Q (lower f a b) (upper f a b) c d
   first_two q = either f a b (λ x y. Q x y c d) (λ _. q) (λ _. u.front a b c d q)
 
-  last-two : Q a b c d → Q a b (lower f c d) (upper f c d)
-  last-two q = either f c d (λ x y. Q a b x y) (λ _. q) (λ _. u.back a b c d q)
+  last_two : Q a b c d → Q a b (lower f c d) (upper f c d)
+  last_two q = either f c d (λ x y. Q a b x y) (λ _. q) (λ _. u.back a b c d q)
 
-  middle-two : Q a b c d → Q a (lower f b c) (upper f b c) d
-  middle-two q = either f b c (λ x y. Q a x y d) (λ _. q) (λ _. u.middle a b c d q)
+  middle_two : Q a b c d → Q a (lower f b c) (upper f b c) d
+  middle_two q = either f b c (λ x y. Q a x y d) (λ _. q) (λ _. u.middle a b c d q)
 
-  lower-two : Q a b c d → Q (lower f a c) b (upper f a c) d
-  lower-two q = either f a c (λ x y. Q x b y d) (λ _. q) (λ _. u.front b c a d (u.middle b a c d (u.front a b c d q)))
+  lower_two : Q a b c d → Q (lower f a c) b (upper f a c) d
+  lower_two q = either f a c (λ x y. Q x b y d) (λ _. q) (λ _. u.front b c a d (u.middle b a c d (u.front a b c d q)))
 
-  upper-two : Q a b c d → Q a (lower f b d) c (upper f b d)
-  upper-two q = either f b d (λ x y. Q a x c y) (λ _. q) (λ _. u.back a d b c (u.middle a b d c (u.back a b c d q)))
+  upper_two : Q a b c d → Q a (lower f b d) c (upper f b d)
+  upper_two q = either f b d (λ x y. Q a x c y) (λ _. q) (λ _. u.back a d b c (u.middle a b d c (u.back a b c d q)))
 
-sorted-keeps : (Q : ℕ → ℕ → ℕ → ℕ → Type 0) → Unordered Q → (f : ℕ → ℕ) (w : Corners ℕ) → Q w.v0 w.v1 w.v2 w.v3 → Q (sorted f w).v0 (sorted f w).v1 (sorted f w).v2 (sorted f w).v3
+sorted_keeps : (Q : ℕ → ℕ → ℕ → ℕ → Type 0) → Unordered Q → (f : ℕ → ℕ) (w : Corners ℕ) → Q w.v0 w.v1 w.v2 w.v3 → Q (sorted f w).v0 (sorted f w).v1 (sorted f w).v2 (sorted f w).v3
 unfolding sorted
-sorted-keeps Q u f w q =
-    middle-two Q u f _ _ _ _ (upper-two Q u f _ _ _ _ (lower-two Q u f _ _ _ _ (last-two Q u f _ _ _ _ (first_two Q u f w.v0 w.v1 w.v2 w.v3 q))))
+sorted_keeps Q u f w q =
+    middle_two Q u f _ _ _ _ (upper_two Q u f _ _ _ _ (lower_two Q u f _ _ _ _ (last_two Q u f _ _ _ _ (first_two Q u f w.v0 w.v1 w.v2 w.v3 q))))
 
 -- ---- the same vertices
 
@@ -51,8 +51,8 @@ abbrev Each : (ℕ → Type 0) → Corners ℕ → Type 0
 Each P c = Every P c.v0 c.v1 c.v2 c.v3
 
 module _ (P : ℕ → Type 0) where
-  every-unordered : Unordered (Every P)
-  every-unordered = record {
+  every_unordered : Unordered (Every P)
+  every_unordered = record {
     front = λ a b c d e. record { v0 = e.v1; v1 = e.v0; v2 = e.v2; v3 = e.v3 };
     middle = λ a b c d e. record { v0 = e.v0; v1 = e.v2; v2 = e.v1; v3 = e.v3 };
     back = λ a b c d e. record { v0 = e.v0; v1 = e.v1; v2 = e.v3; v3 = e.v2 };
@@ -64,8 +64,8 @@ module _ (P : ℕ → Type 0) where
   each_at c e (suc (suc zero)) = e.v2
   each_at c e (suc (suc (suc p))) = e.v3
 
-  each-held : (c : Corners ℕ) → Each P c → (x : ℕ) → Holds 3 c x → P x
-  each-held c e x h = subst P h.is (each_at c e h.place)
+  each_held : (c : Corners ℕ) → Each P c → (x : ℕ) → Holds 3 c x → P x
+  each_held c e x h = subst P h.is (each_at c e h.place)
 
 -- what follows from such a property does not depend on the order either
 follows : (Q : ℕ → ℕ → ℕ → ℕ → Type 0) → Unordered Q → (R : Type 0) → Unordered (λ a b c d. Q a b c d → R)
@@ -85,17 +85,17 @@ own c = record {
 
 -- each vertex sorted is one given, and each one given is sorted
 module _ (f : ℕ → ℕ) (w : Corners ℕ) where
-  each-sorted : (P : ℕ → Type 0) → Each P w → Each P (sorted f w)
-  each-sorted P = sorted-keeps (Every P) (every-unordered P) f w
+  each_sorted : (P : ℕ → Type 0) → Each P w → Each P (sorted f w)
+  each_sorted P = sorted_keeps (Every P) (every_unordered P) f w
 
-  each-given : (P : ℕ → Type 0) → Each P (sorted f w) → Each P w
-  each-given P = sorted-keeps (λ a b c d. Every P a b c d → Each P w) (follows (Every P) (every-unordered P) (Each P w)) f w (λ e. e)
+  each_given : (P : ℕ → Type 0) → Each P (sorted f w) → Each P w
+  each_given P = sorted_keeps (λ a b c d. Every P a b c d → Each P w) (follows (Every P) (every_unordered P) (Each P w)) f w (λ e. e)
 
   pub sorted_of : (x : ℕ) → Holds 3 (sorted f w) x → Holds 3 w x
-  sorted_of = each-held (Holds 3 w) (sorted f w) (each-sorted (Holds 3 w) (own w))
+  sorted_of = each_held (Holds 3 w) (sorted f w) (each_sorted (Holds 3 w) (own w))
 
-  pub sorted-has : (x : ℕ) → Holds 3 w x → Holds 3 (sorted f w) x
-  sorted-has = each-held (Holds 3 (sorted f w)) w (each-given (Holds 3 (sorted f w)) (own (sorted f w)))
+  pub sorted_has : (x : ℕ) → Holds 3 w x → Holds 3 (sorted f w) x
+  sorted_has = each_held (Holds 3 (sorted f w)) w (each_given (Holds 3 (sorted f w)) (own (sorted f w)))
 
 -- ---- the colours rise
 
@@ -108,8 +108,8 @@ record Apart (a b c d : ℕ) : Type 0 where
   bd : b ≡ d → ⊥
   cd : c ≡ d → ⊥
 
-apart-unordered : (f : ℕ → ℕ) → Unordered (λ a b c d. Apart (f a) (f b) (f c) (f d))
-apart-unordered f = record {
+apart_unordered : (f : ℕ → ℕ) → Unordered (λ a b c d. Apart (f a) (f b) (f c) (f d))
+apart_unordered f = record {
   front = λ a b c d q. record { ab = λ e. q.ab (sym e); ac = q.bc; ad = q.bd; bc = q.ac; bd = q.ad; cd = q.cd };
   middle = λ a b c d q. record { ab = q.ac; ac = q.ab; ad = q.ad; bc = λ e. q.bc (sym e); bd = q.cd; cd = q.bd };
   back = λ a b c d q. record { ab = q.ab; ac = q.ad; ad = q.ac; bc = q.bd; bd = q.bc; cd = λ e. q.cd (sym e) };
@@ -120,21 +120,21 @@ Weakly f w = (f w.v0 ≤ f w.v1) × (f w.v1 ≤ f w.v2) × (f w.v2 ≤ f w.v3)
 
 -- two pairs in order are merged by the other three comparisons
 module _ (f : ℕ → ℕ) where
-  lower-is : (a b : ℕ) → f (lower f a b) ≡ min (f a) (f b)
-  lower-is a b = either f a b (λ x y. f x ≡ min (f a) (f b)) (λ h. omega arith) (λ h. omega arith)
+  lower_is : (a b : ℕ) → f (lower f a b) ≡ min (f a) (f b)
+  lower_is a b = either f a b (λ x y. f x ≡ min (f a) (f b)) (λ h. omega arith) (λ h. omega arith)
 
   upper_is : (a b : ℕ) → f (upper f a b) ≡ max (f a) (f b)
   upper_is a b = either f a b (λ x y. f y ≡ max (f a) (f b)) (λ h. omega arith) (λ h. omega arith)
 
   merged : (a b c d : ℕ) → f a ≤ f b → f c ≤ f d → (w : Corners ℕ) → w ≡ inner f (outer f a b c d) → Weakly f w
   merged a b c d h k w e = rw e (
-    omega (arith, lower-is a c, lower-is b d, upper_is a c, lower-is (lower f b d) (upper f a c)),
-    omega (arith, lower-is (lower f b d) (upper f a c), upper_is (lower f b d) (upper f a c)),
-    omega (arith, lower-is b d, upper_is a c, upper_is b d, upper_is (lower f b d) (upper f a c)),
+    omega (arith, lower_is a c, lower_is b d, upper_is a c, lower_is (lower f b d) (upper f a c)),
+    omega (arith, lower_is (lower f b d) (upper f a c), upper_is (lower f b d) (upper f a c)),
+    omega (arith, lower_is b d, upper_is a c, upper_is b d, upper_is (lower f b d) (upper f a c)),
   )
 
   ordered : (a b : ℕ) → f (lower f a b) ≤ f (upper f a b)
-  ordered a b = omega (arith, lower-is a b, upper_is a b)
+  ordered a b = omega (arith, lower_is a b, upper_is a b)
 
 module _ (f : ℕ → ℕ) (w : Corners ℕ) where
   weakly : Weakly f (sorted f w)
@@ -152,21 +152,21 @@ module _ (f : ℕ → ℕ) (w : Corners ℕ) where
       cd = λ e. omega (arith, different 2 3 (omega arith) (omega arith) e);
     }
 
-    pub sorted-climbs : (f (sorted f w).v0 < f (sorted f w).v1) × (f (sorted f w).v1 < f (sorted f w).v2) × (f (sorted f w).v2 < f (sorted f w).v3)
-    sorted-climbs =
-        let far = sorted-keeps (λ a b c d. Apart (f a) (f b) (f c) (f d)) (apart-unordered f) f w apart in
+    pub sorted_climbs : (f (sorted f w).v0 < f (sorted f w).v1) × (f (sorted f w).v1 < f (sorted f w).v2) × (f (sorted f w).v2 < f (sorted f w).v3)
+    sorted_climbs =
+        let far = sorted_keeps (λ a b c d. Apart (f a) (f b) (f c) (f d)) (apart_unordered f) f w apart in
         (omega (arith, weakly.0, far.ab), omega (arith, weakly.1, far.bc), omega (arith, weakly.2, far.cd))
 
     pub sorted_rises : (p : ℕ) → p < 3 → f (at (sorted f w) p) < f (at (sorted f w) (suc p))
-    sorted_rises = under three (λ p. f (at (sorted f w) p) < f (at (sorted f w) (suc p))) sorted-climbs
+    sorted_rises = under three (λ p. f (at (sorted f w) p) < f (at (sorted f w) (suc p))) sorted_climbs
 
     -- in the order of Definition 2
     module _ (N : ℕ) (most : (p : ℕ) → p ≤ 3 → f (at w p) ≤ N) where
-      pub sorted-rising : Rising three N f (sorted f w)
-      sorted-rising = record { rises = sorted_rises; most = (each-sorted f w (λ x. f x ≤ N) colours).v3 }
+      pub sorted_rising : Rising three N f (sorted f w)
+      sorted_rising = record { rises = sorted_rises; most = (each_sorted f w (λ x. f x ≤ N) colours).v3 }
         where
           colours : Each (λ x. f x ≤ N) w
           colours = record { v0 = most 0 (omega arith); v1 = most 1 (omega arith); v2 = most 2 (omega arith); v3 = most 3 (omega arith) }
 
-      pub sorted-started : Started three N f (arranged three N f (sorted f w))
-      sorted-started = record { sorted = sorted f w; rising = sorted-rising; is = refl }
+      pub sorted_started : Started three N f (arranged three N f (sorted f w))
+      sorted_started = record { sorted = sorted f w; rising = sorted_rising; is = refl }

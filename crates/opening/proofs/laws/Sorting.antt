@@ -8,17 +8,17 @@ use native.Mathlib.Omega.{arith}
 use borrow.Author.Tests.{ltb-true, ltb-false, lt-ltb, le-ltb, eq-eqb, ne_eqb}
 use lib.Dec.{ltb}
 use lib.ListN.{length, get_or}
-use Rattle.tables.specs.Layout.{mostVertices}
+use Rattle.tables.specs.Layout.{most_vertices}
 use Rattle.split.specs.Split.{three, number, Corners, corners}
 use Rattle.split.specs.Row.{root}
 use Rattle.forest.specs.Start.{arranged, moved}
-use Rattle.intake.specs.Cells.{Cells, fourOf}
+use Rattle.intake.specs.Cells.{Cells, four_of}
 use Rattle.intake.specs.Causes.{vertex}
 use Rattle.opening.specs.declared.order.Two.{Two}
 use Rattle.intake.specs.declared.grid.Four.{Four}
-use Rattle.opening.specs.Order.{lower, upper, sorted, given, rootOf}
+use Rattle.opening.specs.Order.{lower, upper, sorted, given, root_of}
 use Rattle.opening.specs.Scratch.{Plain}
-use Rattle.opening.specs.Sorting.{four, inOrder, Low}
+use Rattle.opening.specs.Sorting.{four, in_order, Low}
 
 abbrev two : ℕ → ℕ → Two
 two a b = record { low = a; high = b }
@@ -32,19 +32,19 @@ module _ (f : ℕ → ℕ) (a b : ℕ) where
       go true e = swapped (ltb-true (f b) (f a) e)
       go false e = kept (ltb-false (f b) (f a) e)
 
-  pub in-order-swapped : f b < f a → two b a ≡ inOrder f a b
-  in-order-swapped h = rw (lt-ltb (f b) (f a) h)
+  pub in_order_swapped : f b < f a → two b a ≡ in_order f a b
+  in_order_swapped h = rw (lt-ltb (f b) (f a) h)
 
-  pub in-order-kept : f a ≤ f b → two a b ≡ inOrder f a b
-  in-order-kept h = rw (le-ltb (f b) (f a) h)
+  pub in_order_kept : f a ≤ f b → two a b ≡ in_order f a b
+  in_order_kept h = rw (le-ltb (f b) (f a) h)
 
 -- two vertices that have colours
 pub record Known (r : Two) : Type 0 where
-  pub low : r.low < mostVertices
-  pub high : r.high < mostVertices
+  pub low : r.low < most_vertices
+  pub high : r.high < most_vertices
 
-pub in-order-known : (f : ℕ → ℕ) (a b : ℕ) (r : Two) → r ≡ inOrder f a b → a < mostVertices → b < mostVertices → Known r
-in-order-known f a b r e h k = rw e (either f a b (λ x y. Known (two x y)) (λ _. record { low = h; high = k }) (λ _. record { low = k; high = h }))
+pub in_order_known : (f : ℕ → ℕ) (a b : ℕ) (r : Two) → r ≡ in_order f a b → a < most_vertices → b < most_vertices → Known r
+in_order_known f a b r e h k = rw e (either f a b (λ x y. Known (two x y)) (λ _. record { low = h; high = k }) (λ _. record { low = k; high = h }))
 
 -- the comparisons of four vertices: 0 with 1 and 2 with 3, then the lower two and the upper two, then the two between
 pub record Both (p q : Two) : Type 0 where
@@ -52,33 +52,33 @@ pub record Both (p q : Two) : Type 0 where
   pub second : Known q
 
 module _ (f : ℕ → ℕ) where
-  pub first-known : (w : Four) (p q : Two) → Low w → p ≡ inOrder f w.a w.b → q ≡ inOrder f w.c w.d → Both p q
-  first-known w p q l e g = record { first = in-order-known f w.a w.b p e l.a l.b; second = in-order-known f w.c w.d q g l.c l.d }
+  pub first_known : (w : Four) (p q : Two) → Low w → p ≡ in_order f w.a w.b → q ≡ in_order f w.c w.d → Both p q
+  first_known w p q l e g = record { first = in_order_known f w.a w.b p e l.a l.b; second = in_order_known f w.c w.d q g l.c l.d }
 
-  pub second-known : (p q r s : Two) → Both p q → r ≡ inOrder f p.low q.low → s ≡ inOrder f p.high q.high → Both r s
-  second-known p q r s b e g = record {
-    first = in-order-known f p.low q.low r e b.first.low b.second.low;
-    second = in-order-known f p.high q.high s g b.first.high b.second.high;
+  pub second_known : (p q r s : Two) → Both p q → r ≡ in_order f p.low q.low → s ≡ in_order f p.high q.high → Both r s
+  second_known p q r s b e g = record {
+    first = in_order_known f p.low q.low r e b.first.low b.second.low;
+    second = in_order_known f p.high q.high s g b.first.high b.second.high;
   }
 
-  pub sorted-is : (w : Four) (p q r s t : Two) → p ≡ inOrder f w.a w.b → q ≡ inOrder f w.c w.d → r ≡ inOrder f p.low q.low → s ≡ inOrder f p.high q.high → t ≡ inOrder f s.low r.high → corners r.low t.low t.high s.high ≡ sorted f (four w)
+  pub sorted_is : (w : Four) (p q r s t : Two) → p ≡ in_order f w.a w.b → q ≡ in_order f w.c w.d → r ≡ in_order f p.low q.low → s ≡ in_order f p.high q.high → t ≡ in_order f s.low r.high → corners r.low t.low t.high s.high ≡ sorted f (four w)
   unfolding sorted
-  sorted-is w p q r s t ep eq er es et = rw (et, es, er, ep, eq)
+  sorted_is w p q r s t ep eq er es et = rw (et, es, er, ep, eq)
 
 -- the last vertex is moved to the front exactly if its colour is N
 module _ (N : ℕ) (f : ℕ → ℕ) (w : Corners ℕ) where
-  pub arranged-moved : f w.v3 ≡ N → moved three w ≡ arranged three N f w
+  pub arranged_moved : f w.v3 ≡ N → moved three w ≡ arranged three N f w
   unfolding arranged
-  arranged-moved e = rw (eq-eqb (f w.v3) N e)
+  arranged_moved e = rw (eq-eqb (f w.v3) N e)
 
-  pub arranged-kept : (f w.v3 ≡ N → ⊥) → w ≡ arranged three N f w
+  pub arranged_kept : (f w.v3 ≡ N → ⊥) → w ≡ arranged three N f w
   unfolding arranged
-  arranged-kept e = rw (ne_eqb (f w.v3) N e)
+  arranged_kept e = rw (ne_eqb (f w.v3) N e)
 
 -- an element as it is read
-module _ (E : Cells) (k : ℕ) {w : Four} (e : w ≡ fourOf E k) where
+module _ (E : Cells) (k : ℕ) {w : Four} (e : w ≡ four_of E k) where
   pub read_low : {vertices : ℕ} → Plain vertices E → k < E.count → Low w
-  unfolding fourOf
+  unfolding four_of
   read_low x h = rw e (record {
     a = omega (arith, x.there k 0 h (omega arith), x.most);
     b = omega (arith, x.there k 1 h (omega arith), x.most);
@@ -86,6 +86,6 @@ module _ (E : Cells) (k : ℕ) {w : Four} (e : w ≡ fourOf E k) where
     d = omega (arith, x.there k 3 h (omega arith), x.most);
   })
 
-  pub root_is : (N : ℕ) (f : ℕ → ℕ) (u v : Four) → four u ≡ sorted f (four w) → four v ≡ arranged three N f (four u) → root (number three) k (four v) ≡ rootOf N f E k
-  unfolding rootOf fourOf
+  pub root_is : (N : ℕ) (f : ℕ → ℕ) (u v : Four) → four u ≡ sorted f (four w) → four v ≡ arranged three N f (four u) → root (number three) k (four v) ≡ root_of N f E k
+  unfolding root_of four_of
   root_is N f u v p q = ap (root (number three) k) (q ∙ rw (p, e))

@@ -13,6 +13,6 @@ use Rattle.intake.specs.Verdict.{at}
 use Rattle.opening.specs.Opening.{late}
 
 module _ (E : Cells) (vertices : ℕ) where
-  pub garish-last : first (same E) E.count ≡ Nowhere → first (third E) E.count ≡ Nowhere → late E vertices ≡ at (first (garish E) vertices) 8 Passed
+  pub garish_last : first (same E) E.count ≡ Nowhere → first (third E) E.count ≡ Nowhere → late E vertices ≡ at (first (garish E) vertices) 8 Passed
   unfolding late
-  garish-last a b = rw (a, b)
+  garish_last a b = rw (a, b)

@@ -1,6 +1,6 @@
 use mathlib.Core.Path.{◌∙◌}
-use Rattle.opening.proofs.laws.Painted.{most-largest}
-use Rattle.opening.proofs.laws.Opened.{opened-laid}
+use Rattle.opening.proofs.laws.Painted.{most_largest}
+use Rattle.opening.proofs.laws.Opened.{opened_laid}
 use borrow.Author.Rules.{rules}
 use Rattle.opening.proofs.store_all.Statement.{statement}
 use Rattle.opening.proofs.store_all.Tie as tie
@@ -27,7 +27,7 @@ same-length-3 : tie.Need-same-length-3
 same-length-3 c = search rules
 
 returns : tie.Need-returns
-returns c = opened-laid c.before.before.before.before.before.before.before.before.before.before.before.before.before.before.before.before.before.before.before.requires.painted (c.before.before.before.before.before.before.before.before.before.before.before.before.largest-colour.ensures ∙ most-largest c.before.before.before.before.before.before.before.before.before.before.before.before.before.before.before.before.before.before.before.requires.painted) (record { points = c.before.before.before.before.before.before.before.before.before.before.store-points.ensures; records = c.before.before.before.before.before.before.store-records.ensures; rows = c.before.before.store-rows.ensures })
+returns c = opened_laid c.before.before.before.before.before.before.before.before.before.before.before.before.before.before.before.before.before.before.before.requires.painted (c.before.before.before.before.before.before.before.before.before.before.before.before.largest-colour.ensures ∙ most_largest c.before.before.before.before.before.before.before.before.before.before.before.before.before.before.before.before.before.before.before.requires.painted) (record { points = c.before.before.before.before.before.before.before.before.before.before.store-points.ensures; records = c.before.before.before.before.before.before.store-records.ensures; rows = c.before.before.store-rows.ensures })
 
 pub store-all-spec : {M : Type 1} → statement M
 store-all-spec =

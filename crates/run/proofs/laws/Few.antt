@@ -23,10 +23,10 @@ without test x j = test j && not (eqb j x)
 without_other : (test : ℕ → Bool) (x j : ℕ) → (j ≡ x → ⊥) → without test x j ≡ test j
 without_other test x j d = rw (ne_eqb j x d) (and-true (test j))
 
-count-without : (test : ℕ → Bool) (x n : ℕ) → x < n → test x ≡ true → count test n ≡ count (without test x) n + 1
+count_without : (test : ℕ → Bool) (x n : ℕ) → x < n → test x ≡ true → count test n ≡ count (without test x) n + 1
 unfolding count
-count-without test x zero h e = absurd (omega arith)
-count-without test x (suc n) h e = go (ℕ_discrete n x) (count-without test x n)
+count_without test x zero h e = absurd (omega arith)
+count_without test x (suc n) h e = go (ℕ_discrete n x) (count_without test x n)
   where
     go : Dec (n ≡ x) → (x < n → test x ≡ true → count test n ≡ count (without test x) n + 1) → count test n + cond (test n) 1 0 ≡ count (without test x) n + cond (without test x n) 1 0 + 1
     go (yes q) deeper = rw (q, e, eq-eqb x x refl) (omega (arith, count_same (without test x) test x (λ j l. without_other test x j (λ z. omega arith))))
@@ -48,7 +48,7 @@ module _ {A : Type 0} (R : A → ℕ → Type 0) (one : (a b : A) (j : ℕ) → 
       let w = h a (Memᴰ.head refl) in
       omega (
         arith,
-        count-without test w.number n w.below w.holds,
+        count_without test w.number n w.below w.holds,
         few p (without test w.number) (λ b k.
             let v = h b (Memᴰ.tail k) in
             let other : v.number ≡ w.number → ⊥ = λ e. apart b ∣ k ∣₁ (one a b w.number w.fits (rw e at v.fits)) in

@@ -9,12 +9,12 @@ use native.Mathlib.Omega.{arith}
 use lib.ListN.{length}
 use Rattle.split.specs.declared.row.Row.{Row}
 use Rattle.split.specs.Split.{Side}
-use Rattle.split.specs.Row.{cornersOf, childOf}
+use Rattle.split.specs.Row.{corners_of, child_of}
 use Rattle.split.proofs.laws.Rows.{row_step}
 use Rattle.tables.specs.Mesh.{Mesh}
 use Rattle.sound.specs.Sound.{rows, row_of, Grown}
 use Rattle.run.proofs.laws.Cuts.{Cuts, Either, born, before, next, either}
-use Rattle.run.proofs.laws.Grows.{Grows, grows_same, grows-on, cut-grows}
+use Rattle.run.proofs.laws.Grows.{Grows, grows_same, grows_on, cut_grows}
 
 -- a leaf of m that is not one of ss
 pub record Remains (m : Mesh) (ss : List ℕ) (q : ℕ) : Type 0 where
@@ -27,7 +27,7 @@ pub record Born (m m' : Mesh) (v : ℕ) (ss : List ℕ) (q : ℕ) : Type 0 where
   pub parent : ℕ
   pub listed : Memᴰ parent ss
   pub side : Side
-  pub corners : cornersOf (row_of m' q) ≡ cornersOf (childOf side (row_of m parent) parent v)
+  pub corners : corners_of (row_of m' q) ≡ corners_of (child_of side (row_of m parent) parent v)
 
 -- row q of m has children
 pub record Split (m : Mesh) (q : ℕ) : Type 0 where
@@ -43,8 +43,8 @@ pub record Patched (m m' : Mesh) (i t v : ℕ) (ss : List ℕ) : Type 0 where
   pub gone : (s : ℕ) → Memᴰ s ss → (row_of m' s).child ≡ 0 → ⊥
   pub splits : (q : ℕ) → q < rows m' → ((row_of m' q).child ≡ 0 → ⊥) → Split m q ⊎ Memᴰ q ss
 
-pub patched-none : {m : Mesh} {i t : ℕ} (v : ℕ) → Grown m i t → Patched m m i t v []
-patched-none {m} {i} {t} v g = record {
+pub patched_none : {m : Mesh} {i t : ℕ} (v : ℕ) → Grown m i t → Patched m m i t v []
+patched_none {m} {i} {t} v g = record {
   grown = g;
   grows = grows_same m i t;
   size = omega arith;
@@ -57,23 +57,23 @@ module _ {m n m' : Mesh} {i t s v : ℕ} {ss : List ℕ} (g : Grown m i t) (c : 
   own_split : (row_of n s).child ≡ 0 → ⊥
   own_split e = omega (arith, c.rows.there, ap (λ (r : Row). r.child) c.rows.own, e)
 
-  same-listed : (q : ℕ) → Memᴰ q ss → row_of n q ≡ row_of m q
-  same-listed q k = c.rows.old q (old q k) (λ e. once (rw (← e) k))
+  same_listed : (q : ℕ) → Memᴰ q ss → row_of n q ≡ row_of m q
+  same_listed q k = c.rows.old q (old q k) (λ e. once (rw (← e) k))
 
   remaining : (q : ℕ) → q < rows m' → Remains n ss q → Remains m (s ∷ ss) q ⊎ Born m m' v (s ∷ ss) q
   remaining q h r = elim (either g c q r.there) [
     | before l ↦ let d : q ≡ s → ⊥ = λ e. own_split (rw (← e) r.leaf) in
         inl (record { there = l; leaf = rw (← c.rows.old q l d) r.leaf; other = λ k. elim (Memᴰ.cases_cons k) [ inl e ↦ d e | inr j ↦ r.other j ] })
-    | next x e ↦ inr (record { parent = s; listed = Memᴰ.head refl; side = x; corners = ap cornersOf (p.grows.row q r.there) ∙ rw e (ap cornersOf (born g c x)) })
+    | next x e ↦ inr (record { parent = s; listed = Memᴰ.head refl; side = x; corners = ap corners_of (p.grows.row q r.there) ∙ rw e (ap corners_of (born g c x)) })
   ]
 
   carried : (q : ℕ) → Born n m' v ss q → Born m m' v (s ∷ ss) q
-  carried q b = record { parent = b.parent; listed = Memᴰ.tail b.listed; side = b.side; corners = b.corners ∙ rw (same-listed b.parent b.listed) }
+  carried q b = record { parent = b.parent; listed = Memᴰ.tail b.listed; side = b.side; corners = b.corners ∙ rw (same_listed b.parent b.listed) }
 
-  pub patched-cut : Patched m m' i t v (s ∷ ss)
-  patched-cut = record {
+  pub patched_cut : Patched m m' i t v (s ∷ ss)
+  patched_cut = record {
     grown = p.grown;
-    grows = grows-on (cut-grows g c) p.grows;
+    grows = grows_on (cut_grows g c) p.grows;
     size = omega (arith, p.size, c.rows.more);
     leaves = λ q h l. elim (p.leaves q h l) [ inl r ↦ remaining q h r | inr b ↦ inr (carried q b) ];
     gone = λ q k. elim (Memᴰ.cases_cons k) [

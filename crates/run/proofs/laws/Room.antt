@@ -9,10 +9,10 @@ use Rattle.run.specs.Skeleton.{Skeleton, meshed}
 use Rattle.run.specs.Run.{RunAll, Within}
 use Rattle.run.specs.Demand.{Outgrows}
 use Rattle.run.proofs.laws.Needs.{AllMarkable}
-use Rattle.run.proofs.laws.Demanded.{run-finished, demanded}
-use Rattle.run.proofs.laws.Sizes.{split-fits}
+use Rattle.run.proofs.laws.Demanded.{run_finished, demanded}
+use Rattle.run.proofs.laws.Sizes.{split_fits}
 
 -- a call that is accepted
-pub enough-room : (P : List Point) (i t : ℕ) {S S' : Skeleton} {rs : List ℕ} → RunAll S rs S' → Ready P i t S → length S'.records < 4294967295 → AllMarkable S rs → (room : Size) → Within room S' → Outgrows room (meshed P S) i t rs → ⊥
+pub enough_room : (P : List Point) (i t : ℕ) {S S' : Skeleton} {rs : List ℕ} → RunAll S rs S' → Ready P i t S → length S'.records < 4294967295 → AllMarkable S rs → (room : Size) → Within room S' → Outgrows room (meshed P S) i t rs → ⊥
 unfolding Outgrows
-enough-room P i t p y few k room w = let f = run-finished P i t p y few k in split-fits f.ready.grown f.grows.forest (λ e. (demanded P i t p y few k e).1) w
+enough_room P i t p y few k room w = let f = run_finished P i t p y few k in split_fits f.ready.grown f.grows.forest (λ e. (demanded P i t p y few k e).1) w

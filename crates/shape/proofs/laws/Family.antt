@@ -8,32 +8,32 @@ use lib.Dec.{eqb}
 use Rattle.split.specs.declared.row.Row.{Row}
 use Rattle.split.specs.declared.row.Ends.{Ends}
 use Rattle.split.specs.Split.{number, Corners, at, far, Side, left, right}
-use Rattle.split.specs.Row.{cornersOf, tag_of, edge_of, sameRow, childOf}
+use Rattle.split.specs.Row.{corners_of, tag_of, edge_of, same_row, child_of}
 use Rattle.split.proofs.laws.Children.{far_at, at_new}
-use Rattle.split.proofs.laws.Rows.{vertices-step}
-use Rattle.split.proofs.laws.Same.{child-leaf, row_same, same_row}
+use Rattle.split.proofs.laws.Rows.{vertices_step}
+use Rattle.split.proofs.laws.Same.{child_leaf, row_same, same_row_lem}
 use Rattle.split.proofs.laws.Places.{Against, less, equal, more, against}
 use Rattle.tables.specs.declared.layout.Counts.{Counts}
 use Rattle.tables.specs.declared.record.Record.{Record}
-use Rattle.tables.specs.Layout.{noRecord, no_row, recordAt, row_at}
-use Rattle.tables.specs.Mesh.{Mesh, meshOf}
-use Rattle.tables.proofs.laws.View.{length-up-to, up-to-at}
-use Rattle.sound.specs.Sound.{vertices, rows, recordOf, row_of, childless, place, Records, Child, Parent}
+use Rattle.tables.specs.Layout.{no_record, no_row, record_at, row_at}
+use Rattle.tables.specs.Mesh.{Mesh, mesh_of}
+use Rattle.tables.proofs.laws.View.{length_up_to, up_to_at}
+use Rattle.sound.specs.Sound.{vertices, rows, record_of, row_of, childless, place, Records, Child, Parent}
 use Rattle.sound.specs.Check.{Decides, bare}
 use Rattle.shape.specs.Shape.{Sided, Children}
-use Rattle.sound.proofs.laws.Deciding.{decides-same, decides-equal}
-pub use Rattle.sound.proofs.laws.Deciding.{decides-true, decides-false, granted, refused}
+use Rattle.sound.proofs.laws.Deciding.{decides_same, decides_equal}
+pub use Rattle.sound.proofs.laws.Deciding.{decides_true, decides_false, granted, refused}
 
 -- ---- answers
 
 module _ {P : Type 0} where
   -- an answer to another question that comes to the same
-  pub decides-as : {Q : Type 0} {b : Bool} → Decides Q b → (Q → P) → (P → Q) → Decides P b
-  decides-as d f g = decides-same f g d
+  pub decides_as : {Q : Type 0} {b : Bool} → Decides Q b → (Q → P) → (P → Q) → Decides P b
+  decides_as d f g = decides_same f g d
 
   -- the last test of a chain
-  pub decides-test : (x y : ℕ) → (x ≡ y → P) → (P → x ≡ y) → Decides P (eqb x y)
-  decides-test x y f g = decides-same f g (decides-equal y refl)
+  pub decides_test : (x y : ℕ) → (x ≡ y → P) → (P → x ≡ y) → Decides P (eqb x y)
+  decides_test x y f g = decides_same f g (decides_equal y refl)
 
 -- ---- all numbers from t on below n, asked one after the other
 
@@ -44,59 +44,59 @@ pub record Asked (P : ℕ → Type 0) (t k : ℕ) : Type 0 where
   pub from : t ≤ k
   pub passed : All P t k
 
-pub asked-start : (P : ℕ → Type 0) (t : ℕ) → Asked P t t
-asked-start P t = record { from = omega arith; passed = λ k h l. absurd (omega arith) }
+pub asked_start : (P : ℕ → Type 0) (t : ℕ) → Asked P t t
+asked_start P t = record { from = omega arith; passed = λ k h l. absurd (omega arith) }
 
 module _ {P : ℕ → Type 0} {t k : ℕ} (a : Asked P t k) where
-  pub asked-on : P k → Asked P t (k + 1)
-  asked-on p = record { from = omega arith; passed = λ j h l. go j h l (against j k) }
+  pub asked_on : P k → Asked P t (k + 1)
+  asked_on p = record { from = omega arith; passed = λ j h l. go j h l (against j k) }
     where
       go : (j : ℕ) → t ≤ j → j < k + 1 → Against j k → P j
       go j h l (less i) = a.passed j h i
       go j h l (equal e) = rw e p
       go j h l (more i) = absurd (omega arith)
 
-  pub asked-stop : {n : ℕ} → k < n → (P k → ⊥) → All P t n → ⊥
-  asked-stop l h all = h (all k a.from l)
+  pub asked_stop : {n : ℕ} → k < n → (P k → ⊥) → All P t n → ⊥
+  asked_stop l h all = h (all k a.from l)
 
-  pub asked-end : {n : ℕ} → n ≤ k → All P t n
-  asked-end h j l i = a.passed j l (omega arith)
+  pub asked_end : {n : ℕ} → n ≤ k → All P t n
+  asked_end h j l i = a.passed j l (omega arith)
 
 -- ---- rows but for the first child
 
 -- what the comparison answers
-decides-rows : (a b : Row) {r : Bool} → r ≡ sameRow a b → Decides (childless a ≡ childless b) r
-decides-rows a b e = rw e (record { yes = row_same a b; no = λ n s. true≢false (sym (same_row a b s) ∙ n) })
+decides_rows : (a b : Row) {r : Bool} → r ≡ same_row a b → Decides (childless a ≡ childless b) r
+decides_rows a b e = rw e (record { yes = row_same a b; no = λ n s. true≢false (sym (same_row_lem a b s) ∙ n) })
 
 -- the midpoint stands in a child at the place of the parent's tag
-child-vertex : (s : Side) (held parent : Row) (p v : ℕ) → childless held ≡ childOf s parent p v → v ≡ far (tag_of parent) (cornersOf held)
-child-vertex s held parent p v e =
+child_vertex : (s : Side) (held parent : Row) (p v : ℕ) → childless held ≡ child_of s parent p v → v ≡ far (tag_of parent) (corners_of held)
+child_vertex s held parent p v e =
     let g = tag_of parent in
     sym
-    (sym (far_at (cornersOf held) g)
-    ∙ ap (λ (r : Row). at (cornersOf r) (number g)) e
-    ∙ ap (λ (c : Corners ℕ). at c (number g)) (vertices-step s parent p v)
-    ∙ at_new (cornersOf parent) v s g)
+    (sym (far_at (corners_of held) g)
+    ∙ ap (λ (r : Row). at (corners_of r) (number g)) e
+    ∙ ap (λ (c : Corners ℕ). at c (number g)) (vertices_step s parent p v)
+    ∙ at_new (corners_of parent) v s g)
 
-place-apart : (s t : Side) (c : ℕ) → place s c ≡ place t c → s ≡ t
-place-apart left left c e = refl
-place-apart left right c e = absurd (omega arith)
-place-apart right left c e = absurd (omega arith)
-place-apart right right c e = refl
+place_apart : (s t : Side) (c : ℕ) → place s c ≡ place t c → s ≡ t
+place_apart left left c e = refl
+place_apart left right c e = absurd (omega arith)
+place_apart right left c e = absurd (omega arith)
+place_apart right right c e = refl
 
 -- the row at the place of a side is a child if it is the child of this side
-pub sided-here : (s : Side) {held parent k : Row} {r p v : ℕ} {b : Bool} → r ≡ place s parent.child → k ≡ childOf s parent p v → b ≡ sameRow held k → Decides (Sided held r parent p v) b
-sided-here s {held} {parent} {k} {r} {p} {v} here e d = decides-as (decides-rows held k d) (λ q. record { side = s; here = here; is = q ∙ is }) (λ a. a.is ∙ other a.side a.here ∙ sym is)
+pub sided_here : (s : Side) {held parent k : Row} {r p v : ℕ} {b : Bool} → r ≡ place s parent.child → k ≡ child_of s parent p v → b ≡ same_row held k → Decides (Sided held r parent p v) b
+sided_here s {held} {parent} {k} {r} {p} {v} here e d = decides_as (decides_rows held k d) (λ q. record { side = s; here = here; is = q ∙ is }) (λ a. a.is ∙ other a.side a.here ∙ sym is)
   where
-    is : childless k ≡ childOf s parent p v
-    is = rw e (child-leaf s parent p v)
+    is : childless k ≡ child_of s parent p v
+    is = rw e (child_leaf s parent p v)
 
-    other : (t : Side) → r ≡ place t parent.child → childOf t parent p v ≡ childOf s parent p v
-    other t h = rw (place-apart t s parent.child (sym h ∙ here))
+    other : (t : Side) → r ≡ place t parent.child → child_of t parent p v ≡ child_of s parent p v
+    other t h = rw (place_apart t s parent.child (sym h ∙ here))
 
 -- a row at neither place is no child
-pub sided-none : {held parent : Row} {r p v : ℕ} → (r ≡ parent.child → ⊥) → (r ≡ parent.child + 1 → ⊥) → Sided held r parent p v → ⊥
-sided-none {held} {parent} {r} {p} {v} a b s = go s.side s.here
+pub sided_none : {held parent : Row} {r p v : ℕ} → (r ≡ parent.child → ⊥) → (r ≡ parent.child + 1 → ⊥) → Sided held r parent p v → ⊥
+sided_none {held} {parent} {r} {p} {v} a b s = go s.side s.here
   where
     go : (t : Side) → r ≡ place t parent.child → ⊥
     go left h = a h
@@ -105,21 +105,21 @@ sided-none {held} {parent} {r} {p} {v} a b s = go s.side s.here
 -- ---- the mesh and the tables
 
 module _ (R W : List ℕ) (c : Counts) where
-  pub mesh-rows : rows (bare R W c) ≡ c.rows
-  unfolding meshOf
-  mesh-rows = length-up-to (row_at W) c.rows
+  pub mesh_rows : rows (bare R W c) ≡ c.rows
+  unfolding mesh_of
+  mesh_rows = length_up_to (row_at W) c.rows
 
-  pub mesh-vertices : vertices (bare R W c) ≡ c.vertices
-  unfolding meshOf
-  mesh-vertices = length-up-to (recordAt R) c.vertices
+  pub mesh_vertices : vertices (bare R W c) ≡ c.vertices
+  unfolding mesh_of
+  mesh_vertices = length_up_to (record_at R) c.vertices
 
-  pub mesh-row : (r : ℕ) → r < c.rows → row_of (bare R W c) r ≡ row_at W r
-  unfolding meshOf
-  mesh-row r h = up-to-at (row_at W) c.rows r no_row h
+  pub mesh_row : (r : ℕ) → r < c.rows → row_of (bare R W c) r ≡ row_at W r
+  unfolding mesh_of
+  mesh_row r h = up_to_at (row_at W) c.rows r no_row h
 
-  pub mesh-record : (v : ℕ) → v < c.vertices → recordOf (bare R W c) v ≡ recordAt R v
-  unfolding meshOf
-  mesh-record v h = up-to-at (recordAt R) c.vertices v noRecord h
+  pub mesh_record : (v : ℕ) → v < c.vertices → record_of (bare R W c) v ≡ record_at R v
+  unfolding mesh_of
+  mesh_record v h = up_to_at (record_at R) c.vertices v no_record h
 
 -- ---- clauses 4 and 5, part by part, of what the code reads
 
@@ -151,11 +151,11 @@ abbrev pub Passes : Mesh → ℕ → ℕ → Type 0
 Passes m t q = ((row_of m q).child ≡ 0 → ⊥) → Parent m t q
 
 module _ (R W : List ℕ) (c : Counts) where
-  module _ {i v : ℕ} {held : Record} {e : Ends} (h : held ≡ recordAt R v) where
+  module _ {i v : ℕ} {held : Record} {e : Ends} (h : held ≡ record_at R v) where
     pub recorded : Records (bare R W c) i v e → Recorded c.vertices i v held e
     recorded k =
-        let there : v < c.vertices = rw (mesh-vertices R W c) at k.there in
-        let is : recordOf (bare R W c) v ≡ held = mesh-record R W c v there ∙ sym h in
+        let there : v < c.vertices = rw (mesh_vertices R W c) at k.there in
+        let is : record_of (bare R W c) v ≡ held = mesh_record R W c v there ∙ sym h in
         record {
           midpoint = k.midpoint;
           there = there;
@@ -164,12 +164,12 @@ module _ (R W : List ℕ) (c : Counts) where
         }
 
     pub records : Recorded c.vertices i v held e → Records (bare R W c) i v e
-    records k = record { midpoint = k.midpoint; there = rw (mesh-vertices R W c) k.there; ends = rw (mesh-record R W c v k.there, ← h, k.small, k.large) }
+    records k = record { midpoint = k.midpoint; there = rw (mesh_vertices R W c) k.there; ends = rw (mesh_record R W c v k.there, ← h, k.small, k.large) }
 
   row_is : {r : ℕ} {held : Row} → r < c.rows → held ≡ row_at W r → row_of (bare R W c) r ≡ held
-  row_is {r} l h = mesh-row R W c r l ∙ sym h
+  row_is {r} l h = mesh_row R W c r l ∙ sym h
 
-  module _ {r : ℕ} {held parent : Row} {v : ℕ} (l : r < c.rows) (h : held ≡ row_at W r) (g : parent ≡ row_at W held.parent) (at_tag : v ≡ far (tag_of parent) (cornersOf held)) where
+  module _ {r : ℕ} {held parent : Row} {v : ℕ} (l : r < c.rows) (h : held ≡ row_at W r) (g : parent ≡ row_at W held.parent) (at_tag : v ≡ far (tag_of parent) (corners_of held)) where
     up_is : held.parent < r → row_of (bare R W c) (row_of (bare R W c) r).parent ≡ parent
     up_is o = rw (row_is l h) (row_is (omega arith) g)
 
@@ -179,8 +179,8 @@ module _ (R W : List ℕ) (c : Counts) where
         let here = row_is l h in
         let older : held.parent < r = rw here at k.older in
         let up = up_is older in
-        let is : childless held ≡ childOf k.side parent held.parent k.vertex = rw (up, here) at k.is in
-        let same : k.vertex ≡ v = child-vertex k.side held parent held.parent k.vertex is ∙ sym at_tag in
+        let is : childless held ≡ child_of k.side parent held.parent k.vertex = rw (up, here) at k.is in
+        let same : k.vertex ≡ v = child_vertex k.side held parent held.parent k.vertex is ∙ sym at_tag in
         record {
           older = older;
           split = rw up at k.split;
@@ -205,38 +205,38 @@ module _ (R W : List ℕ) (c : Counts) where
         }
 
   module _ {q k : ℕ} {held a b : Row} (l : q < c.rows) (h : held ≡ row_at W q) (e : k ≡ held.child) (f : a ≡ row_at W k) (g : b ≡ row_at W (k + 1)) where
-    first-is : (row_of (bare R W c) q).child ≡ k
-    first-is = rw (row_is l h) (sym e)
+    first_is : (row_of (bare R W c) q).child ≡ k
+    first_is = rw (row_is l h) (sym e)
 
     pub pair_of : {t : ℕ} → Parent (bare R W c) t q → Pair c.rows t q k a b
     pair_of p =
-        let both : k + 1 < c.rows = rw (first-is, mesh-rows R W c) at p.both in
+        let both : k + 1 < c.rows = rw (first_is, mesh_rows R W c) at p.both in
         record {
-          later = rw first-is at p.later;
-          past = rw first-is at p.past;
+          later = rw first_is at p.later;
+          past = rw first_is at p.past;
           both = both;
-          first = rw (first-is, row_is (omega arith) f) at p.first;
-          second = rw (first-is, row_is both g) at p.second;
+          first = rw (first_is, row_is (omega arith) f) at p.first;
+          second = rw (first_is, row_is both g) at p.second;
         }
 
     pub parent_of : {t : ℕ} → Pair c.rows t q k a b → Parent (bare R W c) t q
     parent_of p = record {
-      later = rw first-is p.later;
-      past = rw first-is p.past;
-      both = rw (first-is, mesh-rows R W c) p.both;
-      first = rw (first-is, row_is (omega arith) f) p.first;
-      second = rw (first-is, row_is p.both g) p.second;
+      later = rw first_is p.later;
+      past = rw first_is p.past;
+      both = rw (first_is, mesh_rows R W c) p.both;
+      first = rw (first_is, row_is (omega arith) f) p.first;
+      second = rw (first_is, row_is p.both g) p.second;
     }
 
   module _ {t q : ℕ} {held : Row} (l : q < c.rows) (h : held ≡ row_at W q) where
-    pub passes-leaf : held.child ≡ 0 → Passes (bare R W c) t q
-    passes-leaf e split = absurd (split (rw (row_is l h) e))
+    pub passes_leaf : held.child ≡ 0 → Passes (bare R W c) t q
+    passes_leaf e split = absurd (split (rw (row_is l h) e))
 
-    pub passes-not : (held.child ≡ 0 → ⊥) → (Parent (bare R W c) t q → ⊥) → Passes (bare R W c) t q → ⊥
-    passes-not split none p = none (p (λ e. split (rw (row_is l h) at e)))
+    pub passes_not : (held.child ≡ 0 → ⊥) → (Parent (bare R W c) t q → ⊥) → Passes (bare R W c) t q → ⊥
+    passes_not split none p = none (p (λ e. split (rw (row_is l h) at e)))
 
 -- a later row is no root: its parent is older than it
-pub children-later : (R W : List ℕ) (c : Counts) {i t : ℕ} → Children (bare R W c) i t → (k : ℕ) → t ≤ k → k < c.rows → (row_at W k).parent ≡ k → ⊥
-children-later R W c all k from l e =
-    let older : (row_at W k).parent < k = rw (mesh-row R W c k l) at (all k from (rw (mesh-rows R W c) l)).older in
+pub children_later : (R W : List ℕ) (c : Counts) {i t : ℕ} → Children (bare R W c) i t → (k : ℕ) → t ≤ k → k < c.rows → (row_at W k).parent ≡ k → ⊥
+children_later R W c all k from l e =
+    let older : (row_at W k).parent < k = rw (mesh_row R W c k l) at (all k from (rw (mesh_rows R W c) l)).older in
     omega (arith, older, e)

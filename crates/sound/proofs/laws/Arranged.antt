@@ -6,8 +6,8 @@ use native.Mathlib.Omega.{arith}
 use lib.Dec.{eqb}
 use Rattle.split.specs.Split.{three, Corners, at, Holds}
 use Rattle.forest.specs.Start.{arranged, moved}
-use Rattle.sound.proofs.laws.Searches.{each-of-four}
-use Rattle.sound.proofs.laws.Ordered.{Climbs, climbs-apart}
+use Rattle.sound.proofs.laws.Searches.{each_of_four}
+use Rattle.sound.proofs.laws.Ordered.{Climbs, climbs_apart}
 
 -- c holds the vertices of w, one colour at one place
 pub record Rearranged (f : ℕ → ℕ) (w c : Corners ℕ) : Type 0 where
@@ -26,19 +26,19 @@ turned_apart zero (suc q) h k e = absurd (omega arith)
 turned_apart (suc p) zero h k e = absurd (omega arith)
 turned_apart (suc p) (suc q) h k e = ap suc e
 
-turned-below : (p : ℕ) → p < 4 → turned p < 4
-turned-below zero h = omega arith
-turned-below (suc p) h = omega arith
+turned_below : (p : ℕ) → p < 4 → turned p < 4
+turned_below zero h = omega arith
+turned_below (suc p) h = omega arith
 
 module _ {f : ℕ → ℕ} {w : Corners ℕ} (c : Climbs f w) where
-  turned-at : (p : ℕ) → p < 4 → at (moved three w) p ≡ at w (turned p)
-  turned-at = each-of-four (λ p. at (moved three w) p ≡ at w (turned p)) refl refl refl refl
+  turned_at : (p : ℕ) → p < 4 → at (moved three w) p ≡ at w (turned p)
+  turned_at = each_of_four (λ p. at (moved three w) p ≡ at w (turned p)) refl refl refl refl
 
-  rearranged-moved : Rearranged f w (moved three w)
-  rearranged-moved = record {
-    of = λ x h. record { place = turned h.place; inside = omega (arith, turned-below h.place (omega arith)); is = sym (turned-at h.place (omega arith)) ∙ h.is };
-    has = λ x h. each-of-four (λ p. at w p ≡ x → Holds 3 (moved three w) x) (from 1 (omega arith)) (from 2 (omega arith)) (from 3 (omega arith)) (from 0 (omega arith)) h.place (omega arith) h.is;
-    apart = λ p q h k e. turned_apart p q h k (climbs-apart c (turned p) (turned q) (turned-below p h) (turned-below q k) (ap f (sym (turned-at p h)) ∙ e ∙ ap f (turned-at q k)));
+  rearranged_moved : Rearranged f w (moved three w)
+  rearranged_moved = record {
+    of = λ x h. record { place = turned h.place; inside = omega (arith, turned_below h.place (omega arith)); is = sym (turned_at h.place (omega arith)) ∙ h.is };
+    has = λ x h. each_of_four (λ p. at w p ≡ x → Holds 3 (moved three w) x) (from 1 (omega arith)) (from 2 (omega arith)) (from 3 (omega arith)) (from 0 (omega arith)) h.place (omega arith) h.is;
+    apart = λ p q h k e. turned_apart p q h k (climbs_apart c (turned p) (turned q) (turned_below p h) (turned_below q k) (ap f (sym (turned_at p h)) ∙ e ∙ ap f (turned_at q k)));
   }
     where
       from : {x : ℕ} (p : ℕ) → p ≤ 3 → at (moved three w) p ≡ x → Holds 3 (moved three w) x
@@ -49,5 +49,5 @@ module _ {f : ℕ → ℕ} {w : Corners ℕ} (c : Climbs f w) where
   rearranged N = go (eqb (f w.v3) N)
     where
       go : (b : Bool) → Rearranged f w (cond b (moved three w) w)
-      go true = rearranged-moved
-      go false = record { of = λ x h. h; has = λ x h. h; apart = climbs-apart c }
+      go true = rearranged_moved
+      go false = record { of = λ x h. h; has = λ x h. h; apart = climbs_apart c }

@@ -11,22 +11,22 @@ use Rattle.split.specs.Split.{Side, left, right}
 use Rattle.split.proofs.laws.Places.{less, equal, more, against}
 use Rattle.tables.specs.Mesh.{Mesh}
 use Rattle.intake.specs.Search.{count}
-use Rattle.opening.proofs.laws.Counting.{count_same, count_add, count-zero}
+use Rattle.opening.proofs.laws.Counting.{count_same, count_add, count_zero}
 use Rattle.sound.specs.Sound.{rows, row_of, place, Grown}
-use Rattle.sound.specs.Forest.{splitsIn}
-use Rattle.sound.proofs.laws.Searches.{count-full}
+use Rattle.sound.specs.Forest.{splits_in}
+use Rattle.sound.proofs.laws.Searches.{count_full}
 
 -- ---- two tests that differ at two places
 
-count-pair : (test : ℕ → Bool) (b : Bool) → test 0 ≡ b → test 1 ≡ b → count test 2 ≡ 2 * cond b 1 0
+count_pair : (test : ℕ → Bool) (b : Bool) → test 0 ≡ b → test 1 ≡ b → count test 2 ≡ 2 * cond b 1 0
 unfolding count
-count-pair test true e f = rw (e, f)
-count-pair test false e f = rw (e, f)
+count_pair test true e f = rw (e, f)
+count_pair test false e f = rw (e, f)
 
 module _ (test test' : ℕ → Bool) (c e : ℕ) (old : (j : ℕ) → (j ≡ c) ⊎ (j ≡ c + 1) → test j ≡ false) (new : (j : ℕ) → (j ≡ c) ⊎ (j ≡ c + 1) → test' j ≡ true)
     (same : (j : ℕ) → j < c + (2 + e) → (j ≡ c → ⊥) → (j ≡ c + 1 → ⊥) → test j ≡ test' j) where
-  count-two : count test' (c + (2 + e)) ≡ count test (c + (2 + e)) + 2
-  count-two =
+  count_two : count test' (c + (2 + e)) ≡ count test (c + (2 + e)) + 2
+  count_two =
       omega (
         arith,
         count_add test c (2 + e),
@@ -35,8 +35,8 @@ module _ (test test' : ℕ → Bool) (c e : ℕ) (old : (j : ℕ) → (j ≡ c) 
         count_add (λ j. test' (c + j)) 2 e,
         count_same test test' c (λ j h. same j (omega arith) (omega arith) (omega arith)),
         count_same (λ j. test (c + (2 + j))) (λ j. test' (c + (2 + j))) e (λ j h. same (c + (2 + j)) (omega arith) (omega arith) (omega arith)),
-        count-pair (λ j. test (c + j)) false (old (c + 0) (inl (omega arith))) (old (c + 1) (inr refl)),
-        count-pair (λ j. test' (c + j)) true (new (c + 0) (inl (omega arith))) (new (c + 1) (inr refl)),
+        count_pair (λ j. test (c + j)) false (old (c + 0) (inl (omega arith))) (old (c + 1) (inr refl)),
+        count_pair (λ j. test' (c + j)) true (new (c + 0) (inl (omega arith))) (new (c + 1) (inr refl)),
       )
 
 -- ---- d places, each with a parent below n
@@ -56,7 +56,7 @@ module _ (d : ℕ) (parent : ℕ → ℕ) where
 
   one_more : (q : ℕ) {b : Bool} → Litter d parent q b → count (up (suc q)) d ≡ count (up q) d + 2 * cond b 1 0
   one_more q (none h) = sym (count_same (up q) (up (suc q)) d (λ j l. later (parent j) q (h j l))) ∙ sym (add-zero (count (up q) d))
-  one_more q (both c l e f only) = rw size at (count-two (up q) (up (suc q)) c (d - (c + 2)) (λ j p. le-ltb (parent j) q (omega (arith, own j p))) (λ j p. lt-ltb (parent j) (suc q) (omega (arith, own j p))) (λ j h x y. later (parent j) q (λ z. apart j x y (only j (omega arith) z))))
+  one_more q (both c l e f only) = rw size at (count_two (up q) (up (suc q)) c (d - (c + 2)) (λ j p. le-ltb (parent j) q (omega (arith, own j p))) (λ j p. lt-ltb (parent j) (suc q) (omega (arith, own j p))) (λ j h x y. later (parent j) q (λ z. apart j x y (only j (omega arith) z))))
     where
       size : c + (2 + (d - (c + 2))) ≡ d
       size = omega arith
@@ -69,10 +69,10 @@ module _ (d : ℕ) (parent : ℕ → ℕ) where
       apart j x y (inl i) = x i
       apart j x y (inr i) = y i
 
-  all-upto : (split : ℕ → Bool) (n : ℕ) → ((q : ℕ) → q < n → Litter d parent q (split q)) → count (up n) d ≡ 2 * count split n
+  all_upto : (split : ℕ → Bool) (n : ℕ) → ((q : ℕ) → q < n → Litter d parent q (split q)) → count (up n) d ≡ 2 * count split n
   unfolding count
-  all-upto split zero l = count-zero (up 0) d (λ j h. le-ltb (parent j) 0 (omega arith))
-  all-upto split (suc n) l = omega (arith, one_more n (l n (omega arith)), all-upto split n (λ q h. l q (omega arith)))
+  all_upto split zero l = count_zero (up 0) d (λ j h. le-ltb (parent j) 0 (omega arith))
+  all_upto split (suc n) l = omega (arith, one_more n (l n (omega arith)), all_upto split n (λ q h. l q (omega arith)))
 
 -- ---- the rows past the roots
 
@@ -92,13 +92,13 @@ module _ {m : Mesh} {i t : ℕ} (g : Grown m i t) where
       both (c - t) (omega arith) (rw at w.first) (rw next w.second)
       (λ j h p. let k = g.child (t + j) (omega arith) (omega arith) in by_side k.side t j c w.past (k.here ∙ ap (λ (r : ℕ). place k.side (row_of m r).child) p))
 
-  pub rows-count : rows m ≡ t + 2 * splitsIn m
-  unfolding splitsIn
-  rows-count =
+  pub rows_count : rows m ≡ t + 2 * splits_in m
+  unfolding splits_in
+  rows_count =
       let up : ℕ → ℕ = λ j. (row_of m (t + j)).parent in
       omega (
         arith,
         g.parted.rows_in,
-        count-full (λ j. ltb (up j) (rows m)) (rows m - t) (λ j h. lt-ltb (up j) (rows m) (omega (arith, (g.child (t + j) (omega arith) (omega arith)).older))),
-        all-upto (rows m - t) up (λ q. not (eqb (row_of m q).child 0)) (rows m) (λ q h. litter q h _ refl),
+        count_full (λ j. ltb (up j) (rows m)) (rows m - t) (λ j h. lt-ltb (up j) (rows m) (omega (arith, (g.child (t + j) (omega arith) (omega arith)).older))),
+        all_upto (rows m - t) up (λ q. not (eqb (row_of m q).child 0)) (rows m) (λ q h. litter q h _ refl),
       )

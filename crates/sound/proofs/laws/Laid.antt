@@ -3,52 +3,52 @@ use mathlib.Core.Path.{◌≡◌}
 use Prim.Native.Nat.{ℕ, ◌≤◌}
 use lib.ListN.{length}
 use Rattle.tables.specs.declared.layout.Counts.{Counts}
-use Rattle.tables.specs.Layout.{recordAt, row_at, noFloat}
-use Rattle.tables.specs.Mesh.{Lent, Mesh, Counting, meshOf, laid}
-use Rattle.tables.proofs.laws.View.{Within, length-up-to, length-padded, mesh-laid, laid-unused}
+use Rattle.tables.specs.Layout.{record_at, row_at, no_float}
+use Rattle.tables.specs.Mesh.{Lent, Mesh, Counting, mesh_of, laid}
+use Rattle.tables.proofs.laws.View.{Within, length_up_to, length_padded, mesh_laid, laid_unused}
 use Rattle.tables.proofs.laws.Rows as table
 use Rattle.sound.specs.Sound.{vertices, rows, Fitting, Grown, Conforming, Sound}
 use Rattle.sound.proofs.laws.Tested.{Roomed}
 
 module _ (t : Lent) (c : Counts) where
-  pub mesh-vertices : vertices (meshOf t c) ≡ c.vertices
-  unfolding meshOf
-  mesh-vertices = length-up-to (recordAt t.records) c.vertices
+  pub mesh_vertices : vertices (mesh_of t c) ≡ c.vertices
+  unfolding mesh_of
+  mesh_vertices = length_up_to (record_at t.records) c.vertices
 
-  pub mesh-rows : rows (meshOf t c) ≡ c.rows
-  unfolding meshOf
-  mesh-rows = length-up-to (row_at t.rows) c.rows
+  pub mesh_rows : rows (mesh_of t c) ≡ c.rows
+  unfolding mesh_of
+  mesh_rows = length_up_to (row_at t.rows) c.rows
 
 module _ (m : Mesh) (lp lv lr : ℕ) (w : Within m lp lv lr) where
-  laid-points : length (laid m lp lv lr).points ≡ lp
+  laid_points : length (laid m lp lv lr).points ≡ lp
   unfolding laid
-  laid-points = length-padded table.points noFloat m.points lp w.points
+  laid_points = length_padded table.points no_float m.points lp w.points
 
-  laid-records : length (laid m lp lv lr).records ≡ lv
+  laid_records : length (laid m lp lv lr).records ≡ lv
   unfolding laid
-  laid-records = length-padded table.records 0 m.records lv w.records
+  laid_records = length_padded table.records 0 m.records lv w.records
 
-  laid-rows : length (laid m lp lv lr).rows ≡ lr
+  laid_rows : length (laid m lp lv lr).rows ≡ lr
   unfolding laid
-  laid-rows = length-padded table.rows 0 m.rows lr w.rows
+  laid_rows = length_padded table.rows 0 m.rows lr w.rows
 
   module _ {c : Counts} (k : Counting m c) (r : Roomed (length m.points) (length m.rows) lp lv lr) (some : 1 ≤ length m.rows) where
-    laid-fitting : Fitting (laid m lp lv lr) c
-    laid-fitting = record {
-      points = rw laid-points r.points-whole;
-      records = rw laid-records r.records-whole;
-      rows = rw laid-rows r.rows_whole;
-      vertices-fit = rw (k.vertices, laid-points, laid-records, laid-rows) r.vertices-fit;
-      rows_fit = rw (k.rows, laid-points, laid-records, laid-rows) r.rows_fit;
+    laid_fitting : Fitting (laid m lp lv lr) c
+    laid_fitting = record {
+      points = rw laid_points r.points_whole;
+      records = rw laid_records r.records_whole;
+      rows = rw laid_rows r.rows_whole;
+      vertices_fit = rw (k.vertices, laid_points, laid_records, laid_rows) r.vertices_fit;
+      rows_fit = rw (k.rows, laid_points, laid_records, laid_rows) r.rows_fit;
       some = rw k.rows some;
     }
 
-    pub laid-sound : (initials roots : ℕ) → Grown m initials roots → Conforming m initials → Sound (laid m lp lv lr) c
-    laid-sound initials roots g f = record {
-      fitting = laid-fitting;
+    pub laid_sound : (initials roots : ℕ) → Grown m initials roots → Conforming m initials → Sound (laid m lp lv lr) c
+    laid_sound initials roots g f = record {
+      fitting = laid_fitting;
       initials = initials;
       roots = roots;
-      grown = rw (mesh-laid m lp lv lr w k) g;
-      conforming = rw (mesh-laid m lp lv lr w k) f;
-      unused = laid-unused m lp lv lr w k;
+      grown = rw (mesh_laid m lp lv lr w k) g;
+      conforming = rw (mesh_laid m lp lv lr w k) f;
+      unused = laid_unused m lp lv lr w k;
     }

@@ -16,57 +16,57 @@ use Rattle.intake.specs.declared.answer.Found.TheVariants.{Nowhere}
 use Rattle.intake.specs.Search.{first}
 use Rattle.intake.specs.Causes.{vertex, missing, double, same, third}
 use Rattle.opening.specs.Colours.{colours, garish, largest}
-use Rattle.opening.specs.Order.{rootOf}
-use Rattle.opening.specs.Opening.{openedMesh}
-use Rattle.intake.proofs.laws.Search.{first-none}
-use Rattle.opening.proofs.laws.Proper.{colours-proper}
-use Rattle.sound.proofs.laws.Searches.{refuted, first-nowhere}
-use Rattle.sound.proofs.laws.Flat.{up-to-same}
-use Rattle.sound.proofs.laws.Tested.{Tested, Named, tested-named}
-use Rattle.sound.proofs.laws.Reordered.{Reordered, Single, single-passes, missing-reordered, same-reordered, third-reordered, colours-reordered, colour-reordered}
-use Rattle.sound.proofs.laws.Ordered.{Proper, root-reordered}
+use Rattle.opening.specs.Order.{root_of}
+use Rattle.opening.specs.Opening.{opened_mesh}
+use Rattle.intake.proofs.laws.Search.{first_none}
+use Rattle.opening.proofs.laws.Proper.{colours_proper}
+use Rattle.sound.proofs.laws.Searches.{refuted, first_nowhere}
+use Rattle.sound.proofs.laws.Flat.{up_to_same}
+use Rattle.sound.proofs.laws.Tested.{Tested, Named, tested_named}
+use Rattle.sound.proofs.laws.Reordered.{Reordered, Single, single_passes, missing_reordered, same_reordered, third_reordered, colours_reordered, colour_reordered}
+use Rattle.sound.proofs.laws.Ordered.{Proper, root_reordered}
 
 -- the colours of n vertices, as a row's vertices are sorted by them
 abbrev pub shade : Cells → ℕ → ℕ → ℕ
 shade E n v = get_or (colours E n) v 0
 
 -- the row of element k among n vertices
-abbrev pub rootAmong : ℕ → Cells → ℕ → Row
-rootAmong n E = rootOf (largest (colours E n)) (shade E n) E
+abbrev pub root_among : ℕ → Cells → ℕ → Row
+root_among n E = root_of (largest (colours E n)) (shade E n) E
 
-pub named-proper : {n : ℕ} {E : Cells} → Named n E → Proper (shade E n) E
-named-proper {n} {E} x = record { differ = λ k p q h l m e. go k p q h l m e (against (vertex E k p) (vertex E k q)) }
+pub named_proper : {n : ℕ} {E : Cells} → Named n E → Proper (shade E n) E
+named_proper {n} {E} x = record { differ = λ k p q h l m e. go k p q h l m e (against (vertex E k p) (vertex E k q)) }
   where
     go : (k p q : ℕ) → k < E.count → p < 4 → q < 4 → shade E n (vertex E k p) ≡ shade E n (vertex E k q) → Against (vertex E k p) (vertex E k q) → p ≡ q
-    go k p q h l m e (less b) = absurd (colours-proper E n k p q h l m b (x.there k q h m) e)
+    go k p q h l m e (less b) = absurd (colours_proper E n k p q h l m b (x.there k q h m) e)
     go k p q h l m e (equal s) = x.apart k p q h l m s
-    go k p q h l m e (more b) = absurd (colours-proper E n k q p h m l b (x.there k p h l) (sym e))
+    go k p q h l m e (more b) = absurd (colours_proper E n k q p h m l b (x.there k p h l) (sym e))
 
-named-single : {n : ℕ} {E : Cells} → Named n E → Single E
-named-single x = record { apart = x.apart }
+named_single : {n : ℕ} {E : Cells} → Named n E → Single E
+named_single x = record { apart = x.apart }
 
 module _ {F : List Float} {E : Cells} (t : Tested F E) {E' : Cells} (r : Reordered E E') where
   -- a test that follows from the same test of E
   clear : (test test' : ℕ → Bool) → ((k : ℕ) → k < E.count → test' k ≡ true → test k ≡ true) → first test E.count ≡ Nowhere → first test' E'.count ≡ Nowhere
-  clear test test' f e = subst (λ n. first test' n ≡ Nowhere) r.long (first-nowhere test' E.count (λ k h. refuted (test' k) (test k) (f k h) (first-none test E.count e k h)))
+  clear test test' f e = subst (λ n. first test' n ≡ Nowhere) r.long (first_nowhere test' E.count (λ k h. refuted (test' k) (test k) (f k h) (first_none test E.count e k h)))
 
-  pub tested-reordered : Single E' → Tested F E'
-  tested-reordered s = record {
+  pub tested_reordered : Single E' → Tested F E'
+  tested_reordered s = record {
     usable = t.usable;
-    there = clear (missing (length F / 3) E) (missing (length F / 3) E') (missing-reordered r (length F / 3)) t.there;
-    single = first-nowhere (double E') E'.count (single-passes s);
-    other = clear (same E) (same E') (same-reordered r) t.other;
-    faces = clear (third E) (third E') (third-reordered r (named-single (tested-named t))) t.faces;
-    colours = first-nowhere (garish E') (length F / 3) (λ v h. ap (ltb 63) (sym (colour-reordered r v)) ∙ first-none (garish E) (length F / 3) t.colours v h);
+    there = clear (missing (length F / 3) E) (missing (length F / 3) E') (missing_reordered r (length F / 3)) t.there;
+    single = first_nowhere (double E') E'.count (single_passes s);
+    other = clear (same E) (same E') (same_reordered r) t.other;
+    faces = clear (third E) (third E') (third_reordered r (named_single (tested_named t))) t.faces;
+    colours = first_nowhere (garish E') (length F / 3) (λ v h. ap (ltb 63) (sym (colour_reordered r v)) ∙ first_none (garish E) (length F / 3) t.colours v h);
   }
 
-  pub records-reordered : (openedMesh F E').records ≡ (openedMesh F E).records
-  unfolding openedMesh
-  records-reordered = rw (colours-reordered r (length F / 3))
+  pub records_reordered : (opened_mesh F E').records ≡ (opened_mesh F E).records
+  unfolding opened_mesh
+  records_reordered = rw (colours_reordered r (length F / 3))
 
-  pub rows-reordered : Proper (shade E (length F / 3)) E' → (openedMesh F E').rows ≡ (openedMesh F E).rows
-  unfolding openedMesh
-  rows-reordered p =
-      rw (← colours-reordered r (length F / 3))
-      (ap (up_to (rootOf (largest (colours E (length F / 3))) (shade E (length F / 3)) E')) (sym r.long)
-      ∙ up-to-same (rootAmong (length F / 3) E) E.count no_row _ (λ k h. sym (root-reordered r (named-proper (tested-named t)) p (largest (colours E (length F / 3))) k h)))
+  pub rows_reordered : Proper (shade E (length F / 3)) E' → (opened_mesh F E').rows ≡ (opened_mesh F E).rows
+  unfolding opened_mesh
+  rows_reordered p =
+      rw (← colours_reordered r (length F / 3))
+      (ap (up_to (root_of (largest (colours E (length F / 3))) (shade E (length F / 3)) E')) (sym r.long)
+      ∙ up_to_same (root_among (length F / 3) E) E.count no_row _ (λ k h. sym (root_reordered r (named_proper (tested_named t)) p (largest (colours E (length F / 3))) k h)))

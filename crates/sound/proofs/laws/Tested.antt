@@ -8,18 +8,18 @@ use borrow.Author.Tests.{ltb-false, eqb-true, eqb-false, not-false}
 use lib.Dec.{eqb}
 use lib.ListN.{length}
 use lib.Ieee.{Float}
-use Rattle.tables.specs.Layout.{roomOf, pointWidth, recordWidth, rowWidth, mostRows, mostVertices}
+use Rattle.tables.specs.Layout.{room_of, point_width, record_width, row_width, most_rows, most_vertices}
 use Rattle.intake.specs.Cells.{Cells, quads}
 use Rattle.intake.specs.declared.answer.Found.{Found}
 use Rattle.intake.specs.declared.answer.Found.TheVariants.{At, Nowhere}
 use Rattle.intake.specs.declared.answer.Verdict.{Verdict}
 use Rattle.intake.specs.declared.answer.Verdict.TheVariants.{Passed}
 use Rattle.intake.specs.Search.{first}
-use Rattle.intake.specs.Causes.{wrongInput, wrongLent, noRoom, unusable, vertex, missing, double, same, third}
+use Rattle.intake.specs.Causes.{wrong_input, wrong_lent, has_no_room, unusable, vertex, missing, double, same, third}
 use Rattle.opening.specs.Colours.{garish}
 use Rattle.intake.specs.Verdict.{when, at, fitting, plain}
 use Rattle.opening.specs.Opening.{late, judged}
-use Rattle.opening.proofs.laws.Passed.{there-passed, apart-passed}
+use Rattle.opening.proofs.laws.Passed.{there_passed, apart_passed}
 
 -- ---- tests 1 and 2
 
@@ -28,23 +28,23 @@ pub record Measured (coordinates elements : ℕ) : Type 0 where
   pub thirds : coordinates % 3 ≡ 0
   pub quarters : elements % 4 ≡ 0
   pub some : elements ≡ 0 → ⊥
-  pub vertices : coordinates ≤ pointWidth * mostVertices
-  pub most : elements ≤ 4 * mostRows
+  pub vertices : coordinates ≤ point_width * most_vertices
+  pub most : elements ≤ 4 * most_rows
 
 -- what tests 1 and 2 say of the lent tables
 pub record Roomed (vertices elements points records rows : ℕ) : Type 0 where
-  pub points-whole : points % pointWidth ≡ 0
-  pub records-whole : records % recordWidth ≡ 0
-  pub rows_whole : rows % rowWidth ≡ 0
-  pub vertices-fit : vertices ≤ (roomOf points records rows).vertices
-  pub rows_fit : elements ≤ (roomOf points records rows).rows
+  pub points_whole : points % point_width ≡ 0
+  pub records_whole : records % record_width ≡ 0
+  pub rows_whole : rows % row_width ≡ 0
+  pub vertices_fit : vertices ≤ (room_of points records rows).vertices
+  pub rows_fit : elements ≤ (room_of points records rows).rows
 
 neither : (a b : Bool) → (a || b) ≡ false → (a ≡ false) × (b ≡ false)
 neither true b h = let z : ◌≡◌ {A = ℕ} 0 1 = cc in absurd (omega arith)
 neither false b h = (refl, h)
 
-pub measured : (coordinates elements : ℕ) → wrongInput coordinates elements ≡ false → Measured coordinates elements
-unfolding wrongInput
+pub measured : (coordinates elements : ℕ) → wrong_input coordinates elements ≡ false → Measured coordinates elements
+unfolding wrong_input
 measured coordinates elements h =
     let (three, h1) = neither _ _ h in
     let (four, h2) = neither _ _ h1 in
@@ -58,18 +58,18 @@ measured coordinates elements h =
       most = ltb-false _ _ most;
     }
 
-pub roomed : (vertices elements points records rows : ℕ) → wrongLent points records rows ≡ false → noRoom vertices elements points records rows ≡ false
+pub roomed : (vertices elements points records rows : ℕ) → wrong_lent points records rows ≡ false → has_no_room vertices elements points records rows ≡ false
     → Roomed vertices elements points records rows
-unfolding wrongLent noRoom
+unfolding wrong_lent has_no_room
 roomed vertices elements points records rows w n =
     let (p, w1) = neither _ _ w in
     let (r, q) = neither _ _ w1 in
     let (v, e) = neither _ _ n in
     record {
-      points-whole = eqb-true _ _ (not-false _ p);
-      records-whole = eqb-true _ _ (not-false _ r);
+      points_whole = eqb-true _ _ (not-false _ p);
+      records_whole = eqb-true _ _ (not-false _ r);
       rows_whole = eqb-true _ _ (not-false _ q);
-      vertices-fit = ltb-false _ _ v;
+      vertices_fit = ltb-false _ _ v;
       rows_fit = ltb-false _ _ e;
     }
 
@@ -88,49 +88,49 @@ pub record Named (vertices : ℕ) (E : Cells) : Type 0 where
   pub there : (k q : ℕ) → k < E.count → q < 4 → vertex E k q < vertices
   pub apart : (k p q : ℕ) → k < E.count → p < 4 → q < 4 → vertex E k p ≡ vertex E k q → p ≡ q
 
-when-passed : (b : Bool) (n : ℕ) (next : Verdict) → when b n next ≡ Passed → (b ≡ false) × (next ≡ Passed)
-when-passed true n next e = let z : ◌≡◌ {A = ℕ} 0 1 = cc in absurd (omega arith)
-when-passed false n next e = (refl, e)
+when_passed : (b : Bool) (n : ℕ) (next : Verdict) → when b n next ≡ Passed → (b ≡ false) × (next ≡ Passed)
+when_passed true n next e = let z : ◌≡◌ {A = ℕ} 0 1 = cc in absurd (omega arith)
+when_passed false n next e = (refl, e)
 
-at-passed : (f : Found) (n : ℕ) (next : Verdict) → at f n next ≡ Passed → (f ≡ Nowhere) × (next ≡ Passed)
-at-passed (At q) n next e = let z : ◌≡◌ {A = ℕ} 0 1 = cc in absurd (omega arith)
-at-passed Nowhere n next e = (refl, e)
+at_passed : (f : Found) (n : ℕ) (next : Verdict) → at f n next ≡ Passed → (f ≡ Nowhere) × (next ≡ Passed)
+at_passed (At q) n next e = let z : ◌≡◌ {A = ℕ} 0 1 = cc in absurd (omega arith)
+at_passed Nowhere n next e = (refl, e)
 
 module _ (F : List Float) (E : Cells) where
   pub tested : plain F E (late E (length F / 3)) ≡ Passed → Tested F E
   unfolding plain late
   tested h2 =
-      let (three, h3) = at-passed (first (unusable F) (length F / 3)) _ _ h2 in
-      let (four, h4) = at-passed (first (missing (length F / 3) E) E.count) _ _ h3 in
-      let (five, h5) = at-passed (first (double E) E.count) _ _ h4 in
-      let (six, h6) = at-passed (first (same E) E.count) _ _ h5 in
-      let (seven, h7) = at-passed (first (third E) E.count) _ _ h6 in
-      let (eight, h8) = at-passed (first (garish E) (length F / 3)) _ _ h7 in
+      let (three, h3) = at_passed (first (unusable F) (length F / 3)) _ _ h2 in
+      let (four, h4) = at_passed (first (missing (length F / 3) E) E.count) _ _ h3 in
+      let (five, h5) = at_passed (first (double E) E.count) _ _ h4 in
+      let (six, h6) = at_passed (first (same E) E.count) _ _ h5 in
+      let (seven, h7) = at_passed (first (third E) E.count) _ _ h6 in
+      let (eight, h8) = at_passed (first (garish E) (length F / 3)) _ _ h7 in
       record { usable = three; there = four; single = five; other = six; faces = seven; colours = eight }
 
-  pub tested-passes : Tested F E → plain F E (late E (length F / 3)) ≡ Passed
+  pub tested_passes : Tested F E → plain F E (late E (length F / 3)) ≡ Passed
   unfolding plain late
-  tested-passes t = rw (t.usable, t.there, t.single, t.other, t.faces, t.colours)
+  tested_passes t = rw (t.usable, t.there, t.single, t.other, t.faces, t.colours)
 
-pub tested-named : {F : List Float} {E : Cells} → Tested F E → Named (length F / 3) E
-tested-named {F} {E} t = record { there = there-passed (length F / 3) E t.there; apart = apart-passed E t.single }
+pub tested_named : {F : List Float} {E : Cells} → Tested F E → Named (length F / 3) E
+tested_named {F} {E} t = record { there = there_passed (length F / 3) E t.there; apart = apart_passed E t.single }
 
 -- ---- all tests
 
 pub record Allowed (F : List Float) (E : List ℕ) (points records rows : ℕ) : Type 0 where
-  pub input : wrongInput (length F) (length E) ≡ false
-  pub lent : wrongLent points records rows ≡ false
-  pub room : noRoom (length F / 3) (length E / 4) points records rows ≡ false
+  pub input : wrong_input (length F) (length E) ≡ false
+  pub lent : wrong_lent points records rows ≡ false
+  pub room : has_no_room (length F / 3) (length E / 4) points records rows ≡ false
   pub tests : Tested F (quads E)
 
 pub allowed : (F : List Float) (E : List ℕ) (points records rows : ℕ) → judged F E points records rows ≡ Passed → Allowed F E points records rows
 unfolding judged fitting
 allowed F E points records rows h =
-    let (one, h1) = when-passed (wrongInput (length F) (length E) || wrongLent points records rows) _ _ h in
-    let (two, h2) = when-passed (noRoom (length F / 3) (length E / 4) points records rows) _ _ h1 in
+    let (one, h1) = when_passed (wrong_input (length F) (length E) || wrong_lent points records rows) _ _ h in
+    let (two, h2) = when_passed (has_no_room (length F / 3) (length E / 4) points records rows) _ _ h1 in
     let (input, lent) = neither _ _ one in
     record { input = input; lent = lent; room = two; tests = tested F (quads E) h2 }
 
-pub allowed-passes : (F : List Float) (E : List ℕ) (points records rows : ℕ) → Allowed F E points records rows → judged F E points records rows ≡ Passed
+pub allowed_passes : (F : List Float) (E : List ℕ) (points records rows : ℕ) → Allowed F E points records rows → judged F E points records rows ≡ Passed
 unfolding judged fitting
-allowed-passes F E points records rows w = rw (w.input, w.lent, w.room) (tested-passes F (quads E) w.tests)
+allowed_passes F E points records rows w = rw (w.input, w.lent, w.room) (tested_passes F (quads E) w.tests)

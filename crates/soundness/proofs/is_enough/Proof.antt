@@ -1,10 +1,10 @@
-use Rattle.soundness.proofs.laws.Steps.{memory-small, memory-tested}
+use Rattle.soundness.proofs.laws.Steps.{memory_small, memory_tested}
 use borrow.Author.Rules.{rules}
 use Rattle.soundness.proofs.is_enough.Statement.{statement}
 use Rattle.soundness.proofs.is_enough.Tie as tie
 
 returns : tie.Need-returns
-returns c = search (memory-small, rules)
+returns c = search (memory_small, rules)
 
 least-requires : tie.Need-least-requires
 least-requires c κs = search rules
@@ -16,7 +16,7 @@ add-result : tie.Need-overflow-add-result
 add-result c = search rules
 
 returns-2 : tie.Need-returns-2
-returns-2 c = search (memory-tested, rules)
+returns-2 c = search (memory_tested, rules)
 
 pub is-enough-spec : {M : Type 1} → statement M
 is-enough-spec = tie.close (tie.spec returns least-requires mul-result add-result returns-2)

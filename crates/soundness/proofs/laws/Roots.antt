@@ -11,167 +11,167 @@ use lib.Seq.{length-take-le}
 use lib.Ieee.{Float}
 use Rattle.split.specs.declared.row.Row.{Row}
 use Rattle.split.specs.Split.{at}
-use Rattle.split.specs.Row.{cornersOf, sameRow}
+use Rattle.split.specs.Row.{corners_of, same_row}
 use Rattle.split.proofs.laws.Tests.{both}
-use Rattle.split.proofs.laws.Same.{leaf-childless, row_same, same_row}
+use Rattle.split.proofs.laws.Same.{leaf_childless, row_same, same_row_lem}
 use Rattle.tables.specs.declared.layout.Counts.{Counts}
-use Rattle.tables.specs.Layout.{no_row, pointAt, recordAt, row_at, rowFrom, roomOf, mostRows, mostVertices, pointWidth}
-use Rattle.tables.specs.Mesh.{Mesh, meshOf, up_to}
-use Rattle.tables.proofs.laws.View.{up-to-at, flat-up-to}
+use Rattle.tables.specs.Layout.{no_row, point_at, record_at, row_at, row_from, room_of, most_rows, most_vertices, point_width}
+use Rattle.tables.specs.Mesh.{Mesh, mesh_of, up_to}
+use Rattle.tables.proofs.laws.View.{up_to_at, flat_up_to}
 use Rattle.tables.proofs.laws.Rows.{points}
 use Rattle.intake.specs.declared.answer.Verdict.TheVariants.{Passed}
-use Rattle.intake.specs.Cells.{Cells, gridOf, cells}
+use Rattle.intake.specs.Cells.{Cells, grid_of, cells}
 use Rattle.intake.specs.Verdict.{plain}
 use Rattle.opening.specs.Colours.{colours, largest}
-use Rattle.opening.specs.Order.{rootOf}
-use Rattle.opening.specs.Opening.{late, initial, openedMesh}
+use Rattle.opening.specs.Order.{root_of}
+use Rattle.opening.specs.Opening.{late, initial, opened_mesh}
 use Rattle.opening.specs.Agree.{paint, agreed, workable}
-use Rattle.opening.proofs.laws.Agree.{Workable, workable-means, means-workable, agreed-means, means-agreed}
-use Rattle.sound.specs.Sound.{childless, givenPoints, rootCells, Afresh, Fitting}
+use Rattle.opening.proofs.laws.Agree.{Workable, workable_means, means_workable, agreed_means, means_agreed}
+use Rattle.sound.specs.Sound.{childless, given_points, root_cells, Afresh, Fitting}
 use Rattle.sound.specs.Check.{Decides, lent}
-use Rattle.sound.proofs.laws.Flat.{up-to-same, up-to-front, up-to-map, up-to-each}
-use Rattle.sound.proofs.laws.Searches.{each-of-four}
-use Rattle.sound.proofs.laws.Tested.{tested, tested-passes}
-use Rattle.sound.proofs.laws.Views.{Views, views-back, views-tested, views-records, views-rows}
-use Rattle.shape.proofs.laws.Fitted.{fitting-points, fitting-inside}
+use Rattle.sound.proofs.laws.Flat.{up_to_same, up_to_front, up_to_map, up_to_each}
+use Rattle.sound.proofs.laws.Searches.{each_of_four}
+use Rattle.sound.proofs.laws.Tested.{tested, tested_passes}
+use Rattle.sound.proofs.laws.Views.{Views, views_back, views_tested, views_records, views_rows}
+use Rattle.shape.proofs.laws.Fitted.{fitting_points, fitting_inside}
 
 -- ---- the comparison
 
-root-leaf : (N : ℕ) (f : ℕ → ℕ) (E : Cells) (k : ℕ) → (rootOf N f E k).child ≡ 0
-unfolding rootOf
-root-leaf N f E k = refl
+root_leaf : (N : ℕ) (f : ℕ → ℕ) (E : Cells) (k : ℕ) → (root_of N f E k).child ≡ 0
+unfolding root_of
+root_leaf N f E k = refl
 
 -- a root has no child: it is a row but for its child exactly if the two are the same in the rest
 module _ (a b : Row) (leaf : b.child ≡ 0) where
-  root-row : sameRow a b ≡ true → b ≡ childless a
-  root-row s = sym (row_same a b s ∙ leaf-childless b leaf)
+  root_row : same_row a b ≡ true → b ≡ childless a
+  root_row s = sym (row_same a b s ∙ leaf_childless b leaf)
 
-  row-root : b ≡ childless a → sameRow a b ≡ true
-  row-root e = same_row a b (sym (leaf-childless b leaf ∙ e))
+  row_root : b ≡ childless a → same_row a b ≡ true
+  row_root e = same_row_lem a b (sym (leaf_childless b leaf ∙ e))
 
 module _ (F : List Float) (E : Cells) (R W : List ℕ) where
   -- opening F and E passes tests 3 to 8, and gives the colours and, but for the first child, the rows that stand in front of the tables
   record Alike : Type 0 where
     opens : plain F E (late E (length F / 3)) ≡ Passed
-    colours : (openedMesh F E).records ≡ up_to (recordAt R) (length F / 3)
-    rows : (openedMesh F E).rows ≡ map childless (up_to (row_at W) E.count)
+    colours : (opened_mesh F E).records ≡ up_to (record_at R) (length F / 3)
+    rows : (opened_mesh F E).rows ≡ map childless (up_to (row_at W) E.count)
 
   -- the row that opening makes of element k
   abbrev made : ℕ → Row
-  made = rootOf (largest (colours E (length F / 3))) (paint F E) E
+  made = root_of (largest (colours E (length F / 3))) (paint F E) E
 
-  agreed-alike : agreed F E R W ≡ true → Alike
-  unfolding openedMesh
-  agreed-alike e =
-      let (a, b, d) = agreed-means F E R W e in
+  agreed_alike : agreed F E R W ≡ true → Alike
+  unfolding opened_mesh
+  agreed_alike e =
+      let (a, b, d) = agreed_means F E R W e in
       record {
         opens = a;
-        colours = up-to-same (recordAt R) (length F / 3) (recordAt R 0) (λ v. initial (paint F E v)) (λ v h. sym (b v h));
+        colours = up_to_same (record_at R) (length F / 3) (record_at R 0) (λ v. initial (paint F E v)) (λ v h. sym (b v h));
         rows =
-            up-to-same (λ k. childless (row_at W k)) E.count (row_at W 0) made (λ k h. root-row (row_at W k) (made k) (root-leaf _ _ E k) (d k h))
-            ∙ sym (up-to-map (row_at W) childless E.count);
+            up_to_same (λ k. childless (row_at W k)) E.count (row_at W 0) made (λ k h. root_row (row_at W k) (made k) (root_leaf _ _ E k) (d k h))
+            ∙ sym (up_to_map (row_at W) childless E.count);
       }
 
-  alike-agreed : Alike → agreed F E R W ≡ true
-  unfolding openedMesh
-  alike-agreed s =
-      means-agreed F E R W s.opens
-      (λ v h. sym (up-to-each (recordAt R) (λ v. initial (paint F E v)) (length F / 3) s.colours v h))
-      (λ k h. row-root (row_at W k) (made k) (root-leaf _ _ E k) (up-to-each (λ k. childless (row_at W k)) made E.count (s.rows ∙ up-to-map (row_at W) childless E.count) k h))
+  alike_agreed : Alike → agreed F E R W ≡ true
+  unfolding opened_mesh
+  alike_agreed s =
+      means_agreed F E R W s.opens
+      (λ v h. sym (up_to_each (record_at R) (λ v. initial (paint F E v)) (length F / 3) s.colours v h))
+      (λ k h. row_root (row_at W k) (made k) (root_leaf _ _ E k) (up_to_each (λ k. childless (row_at W k)) made E.count (s.rows ∙ up_to_map (row_at W) childless E.count) k h))
 
-views-alike : {E E' : Cells} → Views E E' → (F : List Float) (R W : List ℕ) → Alike F E R W → Alike F E' R W
-views-alike {E} {E'} x F R W s =
+views_alike : {E E' : Cells} → Views E E' → (F : List Float) (R W : List ℕ) → Alike F E R W → Alike F E' R W
+views_alike {E} {E'} x F R W s =
     let t = tested F E s.opens in
     record {
-      opens = tested-passes F E' (views-tested x t);
-      colours = views-records x t ∙ s.colours;
-      rows = views-rows x t ∙ s.rows ∙ ap (λ (n : ℕ). map childless (up_to (row_at W) n)) x.long;
+      opens = tested_passes F E' (views_tested x t);
+      colours = views_records x t ∙ s.colours;
+      rows = views_rows x t ∙ s.rows ∙ ap (λ (n : ℕ). map childless (up_to (row_at W) n)) x.long;
     }
 
 -- F and E are the first i points and the first t rows
 module _ {P : List Float} {R W : List ℕ} {c : Counts} (fit : Fitting (lent P R W) c) {i t : ℕ} (few : (i ≤ c.vertices) × (t ≤ c.rows)) where
   abbrev m : Mesh
-  m = meshOf (lent P R W) c
+  m = mesh_of (lent P R W) c
 
   -- the parts that are handed on are within their tables
-  pub points-within : 3 * i ≤ length P
-  points-within = omega (arith, fitting-points fit, few.0)
+  pub points_within : 3 * i ≤ length P
+  points_within = omega (arith, fitting_points fit, few.0)
 
-  pub points-few : 3 * i ≤ pointWidth * mostVertices
-  points-few = omega (arith, (fitting-inside fit).few-vertices, few.0)
+  pub points_few : 3 * i ≤ point_width * most_vertices
+  points_few = omega (arith, (fitting_inside fit).few_vertices, few.0)
 
-  rows_few : t ≤ mostRows
-  rows_few = omega (arith, (fitting-inside fit).few-rows, few.1)
+  rows_few : t ≤ most_rows
+  rows_few = omega (arith, (fitting_inside fit).few_rows, few.1)
 
-  points-given : givenPoints m i ≡ take (3 * i) P
-  unfolding meshOf
-  points-given = rw (up-to-front (pointAt P) i c.vertices few.0) (flat-up-to points P i points-within)
+  points_given : given_points m i ≡ take (3 * i) P
+  unfolding mesh_of
+  points_given = rw (up_to_front (point_at P) i c.vertices few.0) (flat_up_to points P i points_within)
 
-  rows-given : take t m.rows ≡ up_to (row_at W) t
-  unfolding meshOf
-  rows-given = up-to-front (row_at W) t c.rows few.1
+  rows_given : take t m.rows ≡ up_to (row_at W) t
+  unfolding mesh_of
+  rows_given = up_to_front (row_at W) t c.rows few.1
 
-  colours-given : take i m.records ≡ up_to (recordAt R) i
-  unfolding meshOf
-  colours-given = up-to-front (recordAt R) i c.vertices few.0
+  colours_given : take i m.records ≡ up_to (record_at R) i
+  unfolding mesh_of
+  colours_given = up_to_front (record_at R) i c.vertices few.0
 
   -- the table read by rows has what the rows have
-  row_is : (k : ℕ) → k < t → row_at W k ≡ rowFrom W (8 * k)
-  unfolding row_at roomOf
+  row_is : (k : ℕ) → k < t → row_at W k ≡ row_from W (8 * k)
+  unfolding row_at room_of
   row_is k h = rw (lt-ltb k (length W / 8) (omega (arith, fit.rows_fit, few.1)))
 
-  row-there : (k : ℕ) → k < t → get_or (take t m.rows) k no_row ≡ rowFrom W (8 * k)
-  row-there k h = ap (λ (l : List Row). get_or l k no_row) rows-given ∙ up-to-at (row_at W) t k no_row h ∙ row_is k h
+  row_there : (k : ℕ) → k < t → get_or (take t m.rows) k no_row ≡ row_from W (8 * k)
+  row_there k h = ap (λ (l : List Row). get_or l k no_row) rows_given ∙ up_to_at (row_at W) t k no_row h ∙ row_is k h
 
-  read-there : Views (cells W (gridOf true t)) (rootCells m t)
-  read-there = record { long = refl; same = λ k q h l. sym (ap (λ (r : Row). at (cornersOf r) q) (row-there k h) ∙ each-of-four (λ q. at (cornersOf (rowFrom W (8 * k))) q ≡ get_or W (8 * k + q) 0) (rw add-zero) refl refl refl q l) }
+  read_there : Views (cells W (grid_of true t)) (root_cells m t)
+  read_there = record { long = refl; same = λ k q h l. sym (ap (λ (r : Row). at (corners_of r) q) (row_there k h) ∙ each_of_four (λ q. at (corners_of (row_from W (8 * k))) q ≡ get_or W (8 * k + q) 0) (rw add-zero) refl refl refl q l) }
 
   -- so is the answer of `agrees`, in memory for the index
-  module _ (S : List ℕ) (room : mostVertices + 4 * t ≤ length S) {b : Bool} (e : b ≡ (workable (length (take (3 * i - 0) P)) t (length (take (mostVertices + 4 * t - 0) S)) && agreed (take (3 * i - 0) P) (cells W (gridOf true t)) R W)) where
+  module _ (S : List ℕ) (room : most_vertices + 4 * t ≤ length S) {b : Bool} (e : b ≡ (workable (length (take (3 * i - 0) P)) t (length (take (most_vertices + 4 * t - 0) S)) && agreed (take (3 * i - 0) P) (cells W (grid_of true t)) R W)) where
     abbrev F : List Float
     F = take (3 * i - 0) P
 
     abbrev memory : ℕ
-    memory = length (take (mostVertices + 4 * t - 0) S)
+    memory = length (take (most_vertices + 4 * t - 0) S)
 
     p : F ≡ take (3 * i) P
     p = rw sub-zero
 
-    enough : mostVertices + 4 * t ≤ memory
-    enough = rw (sub-zero (mostVertices + 4 * t), length-take-le (mostVertices + 4 * t) S room) (omega arith)
+    enough : most_vertices + 4 * t ≤ memory
+    enough = rw (sub-zero (most_vertices + 4 * t), length-take-le (most_vertices + 4 * t) S room) (omega arith)
 
-    fs : givenPoints m i ≡ F
-    fs = points-given ∙ sym p
+    fs : given_points m i ≡ F
+    fs = points_given ∙ sym p
 
     long : length F ≡ 3 * i
-    long = ap length p ∙ length-take-le (3 * i) P points-within
+    long = ap length p ∙ length-take-le (3 * i) P points_within
 
     vertices : length F / 3 ≡ i
     vertices = omega (arith, long)
 
     abbrev C : Cells
-    C = cells W (gridOf true t)
+    C = cells W (grid_of true t)
 
-    to : Workable (length F) t memory → Alike F (rootCells m t) R W → Afresh m i t
+    to : Workable (length F) t memory → Alike F (root_cells m t) R W → Afresh m i t
     to w s = record {
       some = w.some;
       opens = rw fs s.opens;
-      colours = rw (fs, colours-given) (rw vertices at s.colours);
-      rows = rw fs s.rows ∙ ap (map childless) (sym rows-given);
+      colours = rw (fs, colours_given) (rw vertices at s.colours);
+      rows = rw fs s.rows ∙ ap (map childless) (sym rows_given);
     }
 
-    from : Afresh m i t → Alike F (rootCells m t) R W
+    from : Afresh m i t → Alike F (root_cells m t) R W
     from a = record {
       opens = rw fs at a.opens;
-      colours = rw vertices (rw (fs, colours-given) at a.colours);
-      rows = rw fs at a.rows ∙ ap (map childless) rows-given;
+      colours = rw vertices (rw (fs, colours_given) at a.colours);
+      rows = rw fs at a.rows ∙ ap (map childless) rows_given;
     }
 
     works : Afresh m i t → Workable (length F) t memory
-    works a = record { moderate = record { few-coordinates = omega (arith, long, points-few); few-elements = rows_few }; some = a.some; room = enough }
+    works a = record { moderate = record { few_coordinates = omega (arith, long, points_few); few_elements = rows_few }; some = a.some; room = enough }
 
-    pub decides-afresh : Decides (Afresh m i t) b
-    decides-afresh = record {
-      yes = λ y. let (w, s) = both _ _ (sym e ∙ y) in to (workable-means (length F) t memory w) (views-alike read-there F R W (agreed-alike F C R W s));
-      no = λ n a. true≢false (sym (rw (means-workable (length F) t memory (works a)) (alike-agreed F C R W (views-alike (views-back read-there) F R W (from a)))) ∙ sym e ∙ n);
+    pub decides_afresh : Decides (Afresh m i t) b
+    decides_afresh = record {
+      yes = λ y. let (w, s) = both _ _ (sym e ∙ y) in to (workable_means (length F) t memory w) (views_alike read_there F R W (agreed_alike F C R W s));
+      no = λ n a. true≢false (sym (rw (means_workable (length F) t memory (works a)) (alike_agreed F C R W (views_alike (views_back read_there) F R W (from a)))) ∙ sym e ∙ n);
     }

@@ -24,10 +24,10 @@ finite (inf t) s a c v = absurd v
 finite (fin t m e) s a c v = (m, e, ap (λ (r : Bool). fin r m e) v.0, v.1)
 
 -- A value does not depend on the fraction that states it.
-same-value : (x : Float) (s : Bool) (a c b d : ℕ) → 0 < c → a * d ≡ b * c → HasValue x s a c → HasValue x s b d
-same-value nan s a c b d p h v = v
-same-value (inf t) s a c b d p h v = v
-same-value (fin t m e) s a c b d p h v = (
+same_value : (x : Float) (s : Bool) (a c b d : ℕ) → 0 < c → a * d ≡ b * c → HasValue x s a c → HasValue x s b d
+same_value nan s a c b d p h v = v
+same_value (inf t) s a c b d p h v = v
+same_value (fin t m e) s a c b d p h v = (
   v.0,
   eq_of_mul-eq-mul_right c p (m * up e * d) (b * down e)
       (mul_right_comm (m * up e) d c ∙ ap (λ (x : ℕ). x * d) v.1 ∙ mul_right_comm a (down e) d ∙ ap (λ (x : ℕ). x * down e) h ∙ mul_right_comm b c (down e)),
@@ -51,42 +51,42 @@ finer num den n q i u g h is e =
     ∙ ap (λ (x : ℕ). x * 2 ^ h) (e ∙ ap (λ (x : ℕ). x * 2 ^ u * den) is)
     ∙ simp (pow-add, mul_assoc, mul_comm, mul_left_comm)
 
-low-enough : (i u : ℕ) → i ≤ 53 → u ≤ 23 → 53 + (i + u + 1051) ≤ 2098
-low-enough i u h l = omega arith
+low_enough : (i u : ℕ) → i ≤ 53 → u ≤ 23 → 53 + (i + u + 1051) ≤ 2098
+low_enough i u h l = omega arith
 
 -- A fraction that is at most 2 ^ 53 steps of 2 ^ u / 2 ^ 23 is a binary64 number, so rounding keeps it.
 rounded : (s : Bool) (num den n u : ℕ) → 0 < den → n ≤ 2 ^ 53 → u ≤ 23 → num * 2 ^ 23 ≡ n * 2 ^ u * den → HasValue (round binary64 s num den) s (n * 2 ^ u) (2 ^ 23)
 rounded s num den n u p h l e =
     let (q, i, small, short, is) = digits n h in
     let j = i + u + 1051 in
-    same-value (round binary64 s num den) s num den (n * 2 ^ u) (2 ^ 23) p e
-    (round_exact binary64 s num den q j p small (lt_of_lt_of_le (shl_lt 53 j small) (pow_mono {i = 53 + j} {j = 2098} (low-enough i u short l))) (finer num den n q i u 23 1051 is e))
+    same_value (round binary64 s num den) s num den (n * 2 ^ u) (2 ^ 23) p e
+    (round_exact binary64 s num den q j p small (lt_of_lt_of_le (shl_lt 53 j small) (pow_mono {i = 53 + j} {j = 2098} (low_enough i u short l))) (finer num den n q i u 23 1051 is e))
 
 -- ---- whole numbers by sign and magnitude
 
 -- Magnitudes add up under one sign, and the smaller is taken from the larger under opposite ones.
-like-sum : (s : Bool) (a b : ℕ) → signed s a +ℤ signed s b ≡ signed s (a + b)
-like-sum false a b = refl
-like-sum true a b = sym (neg_ℤ-+ℤ (pos a) (pos b))
+like_sum : (s : Bool) (a b : ℕ) → signed s a +ℤ signed s b ≡ signed s (a + b)
+like_sum false a b = refl
+like_sum true a b = sym (neg_ℤ-+ℤ (pos a) (pos b))
 
 abbrev Opposite : Bool → Bool → Type 0
 Opposite s t = (n : ℕ) → signed s n +ℤ signed t n ≡ pos 0
 
-unlike-sum : (s t : Bool) {a b : ℕ} → Opposite s t → b ≤ a → signed s a +ℤ signed t b ≡ signed s (a - b)
-unlike-sum s t {a} {b} cancel h =
+unlike_sum : (s t : Bool) {a b : ℕ} → Opposite s t → b ≤ a → signed s a +ℤ signed t b ≡ signed s (a - b)
+unlike_sum s t {a} {b} cancel h =
     ap (λ (x : ℕ). signed s x +ℤ signed t b) (sym (sub-add_cancel h))
-    ∙ ap (λ (x : ℤ). x +ℤ signed t b) (sym (like-sum s (a - b) b))
+    ∙ ap (λ (x : ℤ). x +ℤ signed t b) (sym (like_sum s (a - b) b))
     ∙ +ℤ_assoc (signed s (a - b)) (signed s b) (signed t b)
     ∙ ap (λ (x : ℤ). signed s (a - b) +ℤ x) (cancel b)
     ∙ +ℤ_idr (signed s (a - b))
 
-flipped-sum : (s t : Bool) {a b : ℕ} → Opposite s t → a ≤ b → signed s a +ℤ signed t b ≡ signed t (b - a)
-flipped-sum s t {a} {b} cancel h = +ℤ_comm (signed s a) (signed t b) ∙ unlike-sum t s (λ (n : ℕ). +ℤ_comm (signed t n) (signed s n) ∙ cancel n) h
+flipped_sum : (s t : Bool) {a b : ℕ} → Opposite s t → a ≤ b → signed s a +ℤ signed t b ≡ signed t (b - a)
+flipped_sum s t {a} {b} cancel h = +ℤ_comm (signed s a) (signed t b) ∙ unlike_sum t s (λ (n : ℕ). +ℤ_comm (signed t n) (signed s n) ∙ cancel n) h
 
 -- `sum` gives a difference of zero the sign of +0, which changes no number.
-zero-positive : (s : Bool) (a b n : ℕ) → (a ≤ b → n ≡ 0) → signed s n ≡ signed (s && ltb b a) n
-zero-positive false a b n h = refl
-zero-positive true a b n h = go (ltb b a) (nltb→le b a)
+zero_positive : (s : Bool) (a b n : ℕ) → (a ≤ b → n ≡ 0) → signed s n ≡ signed (s && ltb b a) n
+zero_positive false a b n h = refl
+zero_positive true a b n h = go (ltb b a) (nltb→le b a)
   where
     go : (x : Bool) → (T (not x) → a ≤ b) → signed true n ≡ signed x n
     go true l = refl
@@ -118,8 +118,8 @@ record Total (u : ℕ) (x : Float) (z : ℤ) : Type 0 where
   within : units * 2 ^ u ≤ 2 ^ 54
 
 -- A difference of multiples is a multiple, and a total has few enough digits for `rounded`.
-sub-mul : (a b c : ℕ) → (a - b) * c ≡ a * c - b * c
-sub-mul a b c = simp (mul_comm, mul-sub)
+sub_mul : (a b c : ℕ) → (a - b) * c ≡ a * c - b * c
+sub_mul a b c = simp (mul_comm, mul-sub)
 
 few : (n u : ℕ) → 0 < u → n * 2 ^ u ≤ 2 ^ 54 → n ≤ 2 ^ 53
 few n u p h =
@@ -131,33 +131,33 @@ module _ (c u : ℕ) (positive : 0 < c) (even : 0 < u) (coarse : u ≤ 23) where
   total : {z : ℤ} (s : Bool) (num n : ℕ) → num * 2 ^ 23 ≡ n * 2 ^ u * c → n * 2 ^ u ≤ 2 ^ 54 → z ≡ signed s (n * 2 ^ u) → Total u (round binary64 s num c) z
   total s num n e within is = record { sign = s; units = n; is = is; value = rounded s num c n u positive (few n u even within) coarse e; within = within }
 
-  like-total : {a b p q : ℕ} (s : Bool) → Summand c u a p → Summand c u b q → Total u (round binary64 s (a + b) c) (signed s (p * 2 ^ u) +ℤ signed s (q * 2 ^ u))
-  like-total {a} {b} {p} {q} s x y = total s (a + b) (p + q) (simp add-mul (cc)) (simp add-mul (omega arith)) (like-sum s (p * 2 ^ u) (q * 2 ^ u) ∙ rw add-mul)
+  like_total : {a b p q : ℕ} (s : Bool) → Summand c u a p → Summand c u b q → Total u (round binary64 s (a + b) c) (signed s (p * 2 ^ u) +ℤ signed s (q * 2 ^ u))
+  like_total {a} {b} {p} {q} s x y = total s (a + b) (p + q) (simp add-mul (cc)) (simp add-mul (omega arith)) (like_sum s (p * 2 ^ u) (q * 2 ^ u) ∙ rw add-mul)
 
   difference : {a b p q : ℕ} {z : ℤ} (s : Bool) → Summand c u a p → Summand c u b q → z ≡ signed s (p * 2 ^ u - q * 2 ^ u) → Total u (round binary64 s (a - b) c) z
-  difference {a} {b} {p} {q} s x y is = total s (a - b) (p - q) (simp sub-mul (cc)) (simp sub-mul (omega arith)) (is ∙ rw sub-mul)
+  difference {a} {b} {p} {q} s x y is = total s (a - b) (p - q) (simp sub_mul (cc)) (simp sub_mul (omega arith)) (is ∙ rw sub_mul)
 
   ordered : {a b p q : ℕ} → Summand c u a p → Summand c u b q → b ≤ a → q * 2 ^ u ≤ p * 2 ^ u
   ordered {p = p} {q = q} x y h =
       let l : q * 2 ^ u * c ≤ p * 2 ^ u * c = omega arith in
       le_of_mul-le-mul_right l positive
 
-  unlike-total : {a b p q : ℕ} (s t : Bool) → Opposite s t → Summand c u a p → Summand c u b q
+  unlike_total : {a b p q : ℕ} (s t : Bool) → Opposite s t → Summand c u a p → Summand c u b q
       → Total u (cond (ltb a b) (round binary64 t (b - a) c) (round binary64 (s && ltb b a) (a - b) c)) (signed s (p * 2 ^ u) +ℤ signed t (q * 2 ^ u))
-  unlike-total {a} {b} {p} {q} s t cancel x y = go (ltb a b) (ltb→lt a b) (nltb→le a b)
+  unlike_total {a} {b} {p} {q} s t cancel x y = go (ltb a b) (ltb→lt a b) (nltb→le a b)
     where
       go : (i : Bool) → (T i → a < b) → (T (not i) → b ≤ a)
           → Total u (cond i (round binary64 t (b - a) c) (round binary64 (s && ltb b a) (a - b) c)) (signed s (p * 2 ^ u) +ℤ signed t (q * 2 ^ u))
-      go true l g = difference t y x (flipped-sum s t cancel (ordered y x (le_of_lt (l tt))))
+      go true l g = difference t y x (flipped_sum s t cancel (ordered y x (le_of_lt (l tt))))
       go false l g =
           difference (s && ltb b a) x y
-          (unlike-sum s t cancel (ordered x y (g tt)) ∙ zero-positive s a b (p * 2 ^ u - q * 2 ^ u) (λ (h : a ≤ b). sub-eq-zero_of_le (ordered y x h)))
+          (unlike_sum s t cancel (ordered x y (g tt)) ∙ zero_positive s a b (p * 2 ^ u - q * 2 ^ u) (λ (h : a ≤ b). sub-eq-zero_of_le (ordered y x h)))
 
-  sum-total : {a b p q : ℕ} (s t : Bool) → Summand c u a p → Summand c u b q → Total u (sum binary64 s a t b c) (signed s (p * 2 ^ u) +ℤ signed t (q * 2 ^ u))
-  sum-total false false x y = rw sum_is (like-total false x y)
-  sum-total false true x y = rw sum_is (unlike-total false true (λ (n : ℕ). +ℤ_invr (pos n)) x y)
-  sum-total true false x y = rw sum_is (unlike-total true false (λ (n : ℕ). +ℤ_invl (pos n)) x y)
-  sum-total true true x y = rw sum_is (like-total true x y)
+  sum_total : {a b p q : ℕ} (s t : Bool) → Summand c u a p → Summand c u b q → Total u (sum binary64 s a t b c) (signed s (p * 2 ^ u) +ℤ signed t (q * 2 ^ u))
+  sum_total false false x y = rw sum_is (like_total false x y)
+  sum_total false true x y = rw sum_is (unlike_total false true (λ (n : ℕ). +ℤ_invr (pos n)) x y)
+  sum_total true false x y = rw sum_is (unlike_total true false (λ (n : ℕ). +ℤ_invl (pos n)) x y)
+  sum_total true true x y = rw sum_is (like_total true x y)
 
 -- The two numbers are brought to the common denominator that `add` uses.
 common : (a b c d g : ℕ) → a * g ≡ b * c → a * d * g ≡ b * (c * d)
@@ -169,7 +169,7 @@ added k {x} {y} h r w =
     let (m, e, fx, vx) = finite x r.sign (r.units * 2 ^ u) (2 ^ 23) r.value in
     let (n, d, fy, vy) = finite y w.sign (w.units * 2 ^ u) (2 ^ 23) w.value in
     rw (fx, fy, r.is, w.is, add_is)
-    (sum-total (down e * down d) u (mul-pos (down_pos e) (down_pos d)) (omega arith) (omega arith) r.sign w.sign
+    (sum_total (down e * down d) u (mul-pos (down_pos e) (down_pos d)) (omega arith) (omega arith) r.sign w.sign
     (record { is = common (m * up e) (r.units * 2 ^ u) (down e) (down d) (2 ^ 23) vx; within = r.within })
     (record { is = common (n * up d) (w.units * 2 ^ u) (down d) (down e) (2 ^ 23) vy ∙ rw (mul_comm (down e)); within = w.within }))
 
@@ -182,8 +182,8 @@ doubled n u v e = rw (e, two-pow-succ, mul-add)
 half_of : (a b w c g : ℕ) → a * g ≡ b * c → b ≡ w + w → a * 1 * g ≡ w * (c * 2)
 half_of a b w c g h e = ap (λ (x : ℕ). x * g) (mul-one a) ∙ h ∙ ap (λ (x : ℕ). x * c) e ∙ simp (add-mul, ← mul_assoc) (omega arith)
 
-half-value : (x : Float) (s : Bool) (n u v : ℕ) → u ≡ suc v → v ≤ 23 → n * 2 ^ u ≤ 2 ^ 54 → HasValue x s (n * 2 ^ u) (2 ^ 23) → HasValue (mul binary64 x half) s (n * 2 ^ v) (2 ^ 23)
-half-value x s n u v next fine within value =
+half_value : (x : Float) (s : Bool) (n u v : ℕ) → u ≡ suc v → v ≤ 23 → n * 2 ^ u ≤ 2 ^ 54 → HasValue x s (n * 2 ^ u) (2 ^ 23) → HasValue (mul binary64 x half) s (n * 2 ^ v) (2 ^ 23)
+half_value x s n u v next fine within value =
     let (m, e, is, eq) = finite x s (n * 2 ^ u) (2 ^ 23) value in
     rw (is, halving)
     (rounded s (m * up e * 1) (down e * 2) n v (mul-pos (down_pos e) (lit< tt)) (few n u (omega arith) within) fine
@@ -196,15 +196,15 @@ halved k {x} h r =
     let v = 23 - (k + 1) in
     let next : 23 - k ≡ suc v = omega arith in
     let twice : n * 2 ^ (23 - k) ≡ n * 2 ^ v + n * 2 ^ v = doubled n (23 - k) v next in
-    let value = half-value x s n (23 - k) v next (omega arith) r.within r.value in
-    (signed s (n * 2 ^ v), like-sum s (n * 2 ^ v) (n * 2 ^ v) ∙ ap (signed s) (sym twice) ∙ sym r.is, record { sign = s; units = n; is = refl; value = value; within = omega arith })
+    let value = half_value x s n (23 - k) v next (omega arith) r.within r.value in
+    (signed s (n * 2 ^ v), like_sum s (n * 2 ^ v) (n * 2 ^ v) ∙ ap (signed s) (sym twice) ∙ sym r.is, record { sign = s; units = n; is = refl; value = value; within = omega arith })
 
 -- ---- the laws
 
 -- An initial coordinate of the exact case is a scaled number before any step.
 pub start : {x : Float} {s : Bool} {n : ℕ} → Whole x s n → Reached 0 x (signed s (n * 2 ^ 23))
 start {x} {s} {n} w =
-    record { sign = s; units = n; is = refl; value = same-value x s n 1 (n * 2 ^ 23) (2 ^ 23) (lit< tt) (sym (mul-one (n * 2 ^ 23))) w.value; within = omega arith }
+    record { sign = s; units = n; is = refl; value = same_value x s n 1 (n * 2 ^ 23) (2 ^ 23) (lit< tt) (sym (mul-one (n * 2 ^ 23))) w.value; within = omega arith }
 
 -- A scaled number stays one when more steps are allowed for, so the two ends of a side can be brought to one number of steps.
 pub more : (j k : ℕ) {x : Float} {z : ℤ} → j ≤ k → k ≤ 23 → Reached j x z → Reached k x z

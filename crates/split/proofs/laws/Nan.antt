@@ -4,8 +4,8 @@ use mathlib.Core.Bool.{true, false, not, true≢false}
 use lib.Dec.{T}
 use lib.Ieee.{Float, nan, inf, fin, ne, is_nan}
 
-pub not-nan : (x : Float) → ne x x ≡ false → T (not (is_nan x))
+pub not_nan : (x : Float) → ne x x ≡ false → T (not (is_nan x))
 unfolding ne is_nan
-not-nan nan e = absurd (true≢false e)
-not-nan (inf s) e = tt
-not-nan (fin s m e) h = tt
+not_nan nan e = absurd (true≢false e)
+not_nan (inf s) e = tt
+not_nan (fin s m e) h = tt

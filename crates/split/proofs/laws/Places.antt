@@ -6,10 +6,10 @@ use native.Mathlib.Nat.{eq-or-lt_of_le}
 use native.Mathlib.Omega.{arith}
 use Rattle.split.specs.Split.{Tag, one, two, three, number}
 
-pub le-or-lt : (a b : ℕ) → (a ≤ b) ⊎ (b < a)
-le-or-lt zero b = inl zero-le
-le-or-lt (suc a) zero = inr (suc-le-suc zero-le)
-le-or-lt (suc a) (suc b) = elim (le-or-lt a b) [ inl h ↦ inl (suc-le-suc h) | inr h ↦ inr (suc-le-suc h) ]
+pub le_or_lt : (a b : ℕ) → (a ≤ b) ⊎ (b < a)
+le_or_lt zero b = inl zero-le
+le_or_lt (suc a) zero = inr (suc-le-suc zero-le)
+le_or_lt (suc a) (suc b) = elim (le_or_lt a b) [ inl h ↦ inl (suc-le-suc h) | inr h ↦ inr (suc-le-suc h) ]
 
 -- where a stands against b
 pub data Against (a b : ℕ) : Type 0 where
@@ -18,7 +18,7 @@ pub data Against (a b : ℕ) : Type 0 where
   more : b < a → Against a b
 
 pub against : (a b : ℕ) → Against a b
-against a b = elim (le-or-lt a b) [ inl h ↦ elim (eq-or-lt_of_le h) [ inl e ↦ equal e | inr l ↦ less l ] | inr h ↦ more h ]
+against a b = elim (le_or_lt a b) [ inl h ↦ elim (eq-or-lt_of_le h) [ inl e ↦ equal e | inr l ↦ less l ] | inr h ↦ more h ]
 
 -- what is to be shown of the places below a tag
 abbrev Below : Tag → (ℕ → Type 0) → Type 0

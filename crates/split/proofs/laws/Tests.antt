@@ -12,13 +12,13 @@ pub holds : (a b r : Bool) → a ≡ true → r ≡ b → r ≡ (a && b)
 holds a b r p q = rw (p, q)
 
 -- r is the answer of a call that made the test
-pub answered-no : {r a : Bool} → r ≡ a → not r ≡ true → a ≡ false
-answered-no e n = sym e ∙ not-true _ n
+pub answered_no : {r a : Bool} → r ≡ a → not r ≡ true → a ≡ false
+answered_no e n = sym e ∙ not-true _ n
 
-pub answered-yes : {r a : Bool} → r ≡ a → not r ≡ false → a ≡ true
-answered-yes e y = sym e ∙ not-false _ y
+pub answered_yes : {r a : Bool} → r ≡ a → not r ≡ false → a ≡ true
+answered_yes e y = sym e ∙ not-false _ y
 
-pub ruleset agreeing = (fails, holds, answered-no, answered-yes, eq-eqb, ne_eqb)
+pub ruleset agreeing = (fails, holds, answered_no, answered_yes, eq-eqb, ne_eqb)
 
 pub both : (a b : Bool) → (a && b) ≡ true → (a ≡ true) × (b ≡ true)
 both true b e = (refl, e)

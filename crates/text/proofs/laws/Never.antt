@@ -9,35 +9,35 @@ use lib.Dec.{eqb}
 use lib.ListN.{length}
 use Rattle.tables.specs.declared.layout.Counts.{Counts}
 use Rattle.tables.specs.Layout.{started}
-use Rattle.tables.specs.Mesh.{Lent, meshOf}
+use Rattle.tables.specs.Mesh.{Lent, mesh_of}
 use Rattle.tables.specs.Report.{Report, refusal, done}
 use Rattle.intake.specs.declared.answer.Verdict.{Verdict}
 use Rattle.intake.specs.declared.answer.Verdict.TheVariants as verdict
 use Rattle.opening.specs.declared.answer.Opened.{Opened}
 use Rattle.opening.specs.declared.answer.Opened.TheVariants as opened
 use Rattle.opening.specs.Opening.{judged, answer}
-use Rattle.opening.proofs.laws.Refusals.{judged-number}
+use Rattle.opening.proofs.laws.Refusals.{judged_number}
 use Rattle.sound.specs.Sound.{Sound}
-use Rattle.sound.proofs.laws.Afresh.{root-depth}
+use Rattle.sound.proofs.laws.Afresh.{root_depth}
 use Rattle.run.specs.Demand.{MarkedDeep}
 use Rattle.closure.specs.declared.answer.Refined.{Refined}
 use Rattle.closure.specs.declared.answer.Refined.TheVariants as refined
 use Rattle.closure.specs.Refine as closure
 use Rattle.closure.specs.Refine.{Refines}
-use Rattle.closure.proofs.laws.Taken.{sound-rows}
-use Rattle.closure.proofs.laws.Refusals.{never-deep}
-use Rattle.closure.proofs.laws.Opened.{Unsplit, laid-unsplit}
+use Rattle.closure.proofs.laws.Taken.{sound_rows}
+use Rattle.closure.proofs.laws.Refusals.{never_deep}
+use Rattle.closure.proofs.laws.Opened.{Unsplit, laid_unsplit}
 use Rattle.fields.specs.declared.line.Line.{Line}
 use Rattle.fields.specs.declared.line.Line.TheVariants as line
 use Rattle.fields.specs.Digits.{number_of, decimal}
 use Rattle.fields.specs.Field.{tabbed, field_of}
 use Rattle.fields.specs.Line.{line_of}
-use Rattle.fields.proofs.Inverse.{bare, more, parts-split, free-spelled, number-decimal}
+use Rattle.fields.proofs.Inverse.{bare, more, parts_split, free_spelled, number_decimal}
 use Rattle.fields.proofs.laws.Lines.{is_same}
-use Rattle.text.specs.Input.{Input, input, over, Taken, taken, fault, takes, Reading, all, refused, readFrom, read_all}
-use Rattle.text.specs.Output.{cLine, pLines}
-use Rattle.text.specs.Program.{headline, leafLines, refinedText, Refining, opens, openedTables, Outcome, Answer, Program}
-use Rattle.text.proofs.laws.Loop.{read_taken, read-fault}
+use Rattle.text.specs.Input.{Input, input, over, Taken, taken, fault, takes, Reading, all, refused, read_from, read_all}
+use Rattle.text.specs.Output.{c_line, p_lines}
+use Rattle.text.specs.Program.{headline, leaf_lines, refined_text, Refining, opens, opened_tables, Outcome, Answer, Program}
+use Rattle.text.proofs.laws.Loop.{read_taken, read_fault}
 
 -- ---- the first line tells its number
 
@@ -46,29 +46,29 @@ record Begins (n : ℕ) (text : List ℕ) : Type 0 where
   rest : List ℕ
   is : text ≡ 67 ∷ 9 ∷ (decimal n ++ (9 ∷ rest))
 
-begins-c : (a b c d : ℕ) → Begins a (cLine a b c d)
-unfolding cLine tabbed
-begins-c a b c d =
+begins_c : (a b c d : ℕ) → Begins a (c_line a b c d)
+unfolding c_line tabbed
+begins_c a b c d =
     let after = decimal b ++ tabbed (decimal c ∷ decimal d ∷ []) in
     record { rest = after ++ (10 ∷ []); is = ap (λ (l : List ℕ). 67 ∷ 9 ∷ l) (append_assoc (decimal a) (9 ∷ after) (10 ∷ [])) }
 
-begins-more : {n : ℕ} {text : List ℕ} (after : List ℕ) → Begins n text → Begins n (text ++ after)
-begins-more {n} after b = record { rest = b.rest ++ after; is = rw b.is (ap (λ (l : List ℕ). 67 ∷ 9 ∷ l) (append_assoc (decimal n) (9 ∷ b.rest) after)) }
+begins_more : {n : ℕ} {text : List ℕ} (after : List ℕ) → Begins n text → Begins n (text ++ after)
+begins_more {n} after b = record { rest = b.rest ++ after; is = rw b.is (ap (λ (l : List ℕ). 67 ∷ 9 ∷ l) (append_assoc (decimal n) (9 ∷ b.rest) after)) }
 
-second-field : {n : ℕ} {text : List ℕ} → Begins n text → field_of text 1 ≡ decimal n
+second_field : {n : ℕ} {text : List ℕ} → Begins n text → field_of text 1 ≡ decimal n
 unfolding field_of
-second-field {n} b = rw (b.is, parts-split {s = 9} {p = 67 ∷ []} (more (λ q. omega (arith, q)) bare) (decimal n ++ (9 ∷ b.rest)), parts-split (free-spelled 10 10 20 n) b.rest)
+second_field {n} b = rw (b.is, parts_split {s = 9} {p = 67 ∷ []} (more (λ q. omega (arith, q)) bare) (decimal n ++ (9 ∷ b.rest)), parts_split (free_spelled 10 10 20 n) b.rest)
 
-begins-one : {m n : ℕ} {text : List ℕ} → m < 100000 → n < 100000 → Begins m text → Begins n text → m ≡ n
-begins-one {m} {n} hm hn x y = is_same (sym (number-decimal m hm) ∙ ap number_of (sym (second-field x) ∙ second-field y) ∙ number-decimal n hn)
+begins_one : {m n : ℕ} {text : List ℕ} → m < 100000 → n < 100000 → Begins m text → Begins n text → m ≡ n
+begins_one {m} {n} hm hn x y = is_same (sym (number_decimal m hm) ∙ ap number_of (sym (second_field x) ∙ second_field y) ∙ number_decimal n hn)
 
-headline-begins : (r : Report) → Begins r.number (headline r)
+headline_begins : (r : Report) → Begins r.number (headline r)
 unfolding headline
-headline-begins r = go (eqb r.number 0) refl
+headline_begins r = go (eqb r.number 0) refl
   where
-    go : (t : Bool) → eqb r.number 0 ≡ t → Begins r.number (cond t (cLine 0 r.counts.vertices r.counts.rows r.splits) (cLine r.number r.place 0 0))
-    go true e = rw (eqb-true r.number 0 e) (begins-c 0 r.counts.vertices r.counts.rows r.splits)
-    go false e = begins-c r.number r.place 0 0
+    go : (t : Bool) → eqb r.number 0 ≡ t → Begins r.number (cond t (c_line 0 r.counts.vertices r.counts.rows r.splits) (c_line r.number r.place 0 0))
+    go true e = rw (eqb-true r.number 0 e) (begins_c 0 r.counts.vertices r.counts.rows r.splits)
+    go false e = begins_c r.number r.place 0 0
 
 -- ---- which numbers come
 
@@ -78,11 +78,11 @@ record Comes (n : ℕ) : Type 0 where
   nine : n ≡ 9 → ⊥
   eleven : n ≡ 11 → ⊥
 
-comes-is : {m n : ℕ} → m ≡ n → Comes m → Comes n
-comes-is e c = rw e at c
+comes_is : {m n : ℕ} → m ≡ n → Comes m → Comes n
+comes_is e c = rw e at c
 
-comes-low : {n : ℕ} → n ≤ 8 → Comes n
-comes-low h = record { few = omega arith; nine = λ e. omega arith; eleven = λ e. omega arith }
+comes_low : {n : ℕ} → n ≤ 8 → Comes n
+comes_low h = record { few = omega arith; nine = λ e. omega arith; eleven = λ e. omega arith }
 
 ten : Comes 10
 ten = record { few = omega arith; nine = λ e. omega (arith, e); eleven = λ e. omega (arith, e) }
@@ -95,68 +95,68 @@ thirteen = record { few = omega arith; nine = λ e. omega (arith, e); eleven = �
 
 -- ---- reading: 12 and 13
 
-fault-is : {m n : ℕ} → fault m ≡ fault n → m ≡ n
-fault-is e = cc
+fault_is : {m n : ℕ} → fault m ≡ fault n → m ≡ n
+fault_is e = cc
 
-fault-taken : {X : Type 0} {i : Input} {n : ℕ} → taken i ≡ fault n → X
-fault-taken e = let z : ◌≡◌ {A = ℕ} 0 1 = cc in absurd (omega arith)
+fault_taken : {X : Type 0} {i : Input} {n : ℕ} → taken i ≡ fault n → X
+fault_taken e = let z : ◌≡◌ {A = ℕ} 0 1 = cc in absurd (omega arith)
 
-cond-fault : (s t : Bool) (j : Input) {n : ℕ} → cond s (cond t (fault 13) (taken j)) (fault 12) ≡ fault n → Comes n
-cond-fault true true j e = comes-is (fault-is e) thirteen
-cond-fault true false j e = fault-taken e
-cond-fault false t j e = comes-is (fault-is e) twelve
+cond_fault : (s t : Bool) (j : Input) {n : ℕ} → cond s (cond t (fault 13) (taken j)) (fault 12) ≡ fault n → Comes n
+cond_fault true true j e = comes_is (fault_is e) thirteen
+cond_fault true false j e = fault_taken e
+cond_fault false t j e = comes_is (fault_is e) twelve
 
-takes-fault : (i : Input) (l : Line) {n : ℕ} → takes i l ≡ fault n → Comes n
+takes_fault : (i : Input) (l : Line) {n : ℕ} → takes i l ≡ fault n → Comes n
 unfolding takes
-takes-fault i (line.Vertex x y z) e =
-    cond-fault (eqb (length i.elements + length i.marks) 0) (over 3 (length i.coordinates) 768) (input (i.coordinates ++ (x ∷ y ∷ z ∷ [])) i.elements i.marks) e
-takes-fault i (line.Element a b c d) e = cond-fault (eqb (length i.marks) 0) (over 4 (length i.elements) 1024) (input i.coordinates (i.elements ++ (a ∷ b ∷ c ∷ d ∷ [])) i.marks) e
-takes-fault i (line.Mark r) e = cond-fault true (over 1 (length i.marks) 256) (input i.coordinates i.elements (i.marks ++ (r ∷ []))) e
-takes-fault i (line.Refused p) e = comes-is (fault-is e) twelve
+takes_fault i (line.Vertex x y z) e =
+    cond_fault (eqb (length i.elements + length i.marks) 0) (over 3 (length i.coordinates) 768) (input (i.coordinates ++ (x ∷ y ∷ z ∷ [])) i.elements i.marks) e
+takes_fault i (line.Element a b c d) e = cond_fault (eqb (length i.marks) 0) (over 4 (length i.elements) 1024) (input i.coordinates (i.elements ++ (a ∷ b ∷ c ∷ d ∷ [])) i.marks) e
+takes_fault i (line.Mark r) e = cond_fault true (over 1 (length i.marks) 256) (input i.coordinates i.elements (i.marks ++ (r ∷ []))) e
+takes_fault i (line.Refused p) e = comes_is (fault_is e) twelve
 
-refused-is : {m n p q : ℕ} → refused m p ≡ refused n q → m ≡ n
-refused-is e = cc
+refused_is : {m n p q : ℕ} → refused m p ≡ refused n q → m ≡ n
+refused_is e = cc
 
 refused_all : {X : Type 0} {i : Input} {n p : ℕ} → all i ≡ refused n p → X
 refused_all e = let z : ◌≡◌ {A = ℕ} 0 1 = cc in absurd (omega arith)
 
-read_number : (ps : List (List ℕ)) (i : Input) (k : ℕ) {n p : ℕ} → readFrom i k ps ≡ refused n p → Comes n
-unfolding readFrom
+read_number : (ps : List (List ℕ)) (i : Input) (k : ℕ) {n p : ℕ} → read_from i k ps ≡ refused n p → Comes n
+unfolding read_from
 read_number [] i k e = refused_all e
 read_number (l ∷ []) i k {n} {p} e = go (eqb (length l) 0) e
   where
     go : (t : Bool) → cond t (all i) (refused 12 k) ≡ refused n p → Comes n
     go true e = refused_all e
-    go false e = comes-is (refused-is e) twelve
+    go false e = comes_is (refused_is e) twelve
 read_number (l ∷ q ∷ ps) i k {n} {p} e = go (λ j f. read_number (q ∷ ps) j (suc k) f) (takes i (line_of l k)) refl
   where
-    go : ((j : Input) → readFrom j (suc k) (q ∷ ps) ≡ refused n p → Comes n) → (t : Taken) → takes i (line_of l k) ≡ t → Comes n
+    go : ((j : Input) → read_from j (suc k) (q ∷ ps) ≡ refused n p → Comes n) → (t : Taken) → takes i (line_of l k) ≡ t → Comes n
     go r (taken j) f = r j (sym (read_taken i k l (q ∷ ps) (omega arith) j f) ∙ e)
-    go r (fault m) f = comes-is (refused-is (sym (read-fault i k l (q ∷ ps) (omega arith) m f) ∙ e)) (takes-fault i (line_of l k) f)
+    go r (fault m) f = comes_is (refused_is (sym (read_fault i k l (q ∷ ps) (omega arith) m f) ∙ e)) (takes_fault i (line_of l k) f)
 
 -- ---- opening: 1 to 8
 
-opens-number : (i : Input) {n p : ℕ} → opens i ≡ opened.Refused n p → Comes n
+opens_number : (i : Input) {n p : ℕ} → opens i ≡ opened.Refused n p → Comes n
 unfolding opens
-opens-number i {n} {p} = go (judged i.coordinates i.elements 1536 1024 6144) refl
+opens_number i {n} {p} = go (judged i.coordinates i.elements 1536 1024 6144) refl
   where
     go : (v : Verdict) → judged i.coordinates i.elements 1536 1024 6144 ≡ v → answer v (length i.coordinates / 3) (length i.elements / 4) ≡ opened.Refused n p → Comes n
-    go (verdict.Refused m q) f e = let s : m ≡ n = cc in comes-is s (comes-low (judged-number i.coordinates i.elements 1536 1024 6144 m q f).1)
+    go (verdict.Refused m q) f e = let s : m ≡ n = cc in comes_is s (comes_low (judged_number i.coordinates i.elements 1536 1024 6144 m q f).1)
     go verdict.Passed f e = let z : ◌≡◌ {A = ℕ} 0 1 = cc in absurd (omega arith)
 
-pub opens-unsplit : (i : Input) {c : Counts} → opens i ≡ opened.Done c → Unsplit (openedTables i) c
-unfolding opens openedTables
-opens-unsplit i {c} = go (judged i.coordinates i.elements 1536 1024 6144) refl
+pub opens_unsplit : (i : Input) {c : Counts} → opens i ≡ opened.Done c → Unsplit (opened_tables i) c
+unfolding opens opened_tables
+opens_unsplit i {c} = go (judged i.coordinates i.elements 1536 1024 6144) refl
   where
-    go : (v : Verdict) → judged i.coordinates i.elements 1536 1024 6144 ≡ v → answer v (length i.coordinates / 3) (length i.elements / 4) ≡ opened.Done c → Unsplit (openedTables i) c
+    go : (v : Verdict) → judged i.coordinates i.elements 1536 1024 6144 ≡ v → answer v (length i.coordinates / 3) (length i.elements / 4) ≡ opened.Done c → Unsplit (opened_tables i) c
     go (verdict.Refused m q) f e = let z : ◌≡◌ {A = ℕ} 0 1 = cc in absurd (omega arith)
     go verdict.Passed f e =
         let s : started (length i.coordinates / 3) (length i.elements / 4) ≡ c = cc in
-        subst (λ (d : Counts). Unsplit (openedTables i) d) s (laid-unsplit i.coordinates i.elements 1536 1024 6144 f)
+        subst (λ (d : Counts). Unsplit (opened_tables i) d) s (laid_unsplit i.coordinates i.elements 1536 1024 6144 f)
 
-pub opens-rows : (i : Input) {c : Counts} → opens i ≡ opened.Done c → c.rows ≡ length i.elements / 4
+pub opens_rows : (i : Input) {c : Counts} → opens i ≡ opened.Done c → c.rows ≡ length i.elements / 4
 unfolding opens
-opens-rows i {c} = go (judged i.coordinates i.elements 1536 1024 6144)
+opens_rows i {c} = go (judged i.coordinates i.elements 1536 1024 6144)
   where
     go : (v : Verdict) → answer v (length i.coordinates / 3) (length i.elements / 4) ≡ opened.Done c → c.rows ≡ length i.elements / 4
     go (verdict.Refused m q) e = let z : ◌≡◌ {A = ℕ} 0 1 = cc in absurd (omega arith)
@@ -171,23 +171,23 @@ module _ {t : Lent} {c : Counts} (u : Unsplit t c) (marks : List ℕ) where
   s = u.sound
 
   -- rows are roots, so none is of depth 60
-  unsplit-shallow : MarkedDeep (meshOf t c) marks → ⊥
-  unsplit-shallow d = omega (arith, d.deep, root-depth s.grown d.row (rw (u.roots-are, ← sound-rows s) d.there))
+  unsplit_shallow : MarkedDeep (mesh_of t c) marks → ⊥
+  unsplit_shallow d = omega (arith, d.deep, root_depth s.grown d.row (rw (u.roots_are, ← sound_rows s) d.there))
 
-  unsplit-number : {r : Refined} {t' : Lent} → Refines t c marks r t' → Comes (closure.reported r).number
-  unsplit-number {r} {t'} x = go x
+  unsplit_number : {r : Refined} {t' : Lent} → Refines t c marks r t' → Comes (closure.reported r).number
+  unsplit_number {r} {t'} x = go x
     where
       go : Refines t c marks r t' → Comes (closure.reported r).number
       go (closure.unsound f y) = absurd (f s)
       go (closure.sound s' (closure.missing p e y)) = rw y.reports ten
-      go (closure.sound s' (closure.present e (closure.deep d y))) = absurd (never-deep x unsplit-shallow 0 y.answers)
-      go (closure.sound s' (closure.present e (closure.shallow n (closure.outgrown o y)))) = rw y.reports (comes-low (omega arith))
-      go (closure.sound s' (closure.present e (closure.shallow n (closure.fits o y)))) = rw y.reports (comes-low (omega arith))
+      go (closure.sound s' (closure.present e (closure.deep d y))) = absurd (never_deep x unsplit_shallow 0 y.answers)
+      go (closure.sound s' (closure.present e (closure.shallow n (closure.outgrown o y)))) = rw y.reports (comes_low (omega arith))
+      go (closure.sound s' (closure.present e (closure.shallow n (closure.fits o y)))) = rw y.reports (comes_low (omega arith))
 
 -- opened tables are never refused by 9 or 11
-pub opened-never : (i : Input) {c : Counts} → opens i ≡ opened.Done c → {marks : List ℕ} {r : Refined} {t' : Lent} → Refines (openedTables i) c marks r t' → (p : ℕ) → (r ≡ refined.Refused 9 p → ⊥) × (r ≡ refined.Refused 11 p → ⊥)
-opened-never i o {marks} {r} x p =
-    let c = unsplit-number (opens-unsplit i o) marks x in
+pub opened_never : (i : Input) {c : Counts} → opens i ≡ opened.Done c → {marks : List ℕ} {r : Refined} {t' : Lent} → Refines (opened_tables i) c marks r t' → (p : ℕ) → (r ≡ refined.Refused 9 p → ⊥) × (r ≡ refined.Refused 11 p → ⊥)
+opened_never i o {marks} {r} x p =
+    let c = unsplit_number (opens_unsplit i o) marks x in
     (λ e. c.nine (ap (λ (a : Refined). (closure.reported a).number) e), λ e. c.eleven (ap (λ (a : Refined). (closure.reported a).number) e))
 
 -- ---- the texts
@@ -197,30 +197,30 @@ record Answered (text : List ℕ) : Type 0 where
   begins : Begins number text
   comes : Comes number
 
-headline-answered : (r : Report) {text : List ℕ} → text ≡ headline r → Comes r.number → Answered text
-headline-answered r e c = record { number = r.number; begins = rw e (headline-begins r); comes = c }
+headline_answered : (r : Report) {text : List ℕ} → text ≡ headline r → Comes r.number → Answered text
+headline_answered r e c = record { number = r.number; begins = rw e (headline_begins r); comes = c }
 
-refining-answered : {t : Lent} {c : Counts} {marks text : List ℕ} → Unsplit t c → Refining t c marks text → Answered text
-unfolding refinedText
-refining-answered {t} {c} {marks} {text} u x = go x.answer (unsplit-number u marks x.refines) x.prints
+refining_answered : {t : Lent} {c : Counts} {marks text : List ℕ} → Unsplit t c → Refining t c marks text → Answered text
+unfolding refined_text
+refining_answered {t} {c} {marks} {text} u x = go x.answer (unsplit_number u marks x.refines) x.prints
   where
-    go : (r : Refined) → Comes (closure.reported r).number → text ≡ refinedText c.vertices r x.after → Answered text
-    go (refined.Refused n p) k e = headline-answered (refusal n p) e k
-    go (refined.Done d n) k e = record { number = 0; begins = rw e (begins-more (leafLines x.after d) (begins-more (pLines x.after.points x.after.records c.vertices d.vertices) (headline-begins (done d n)))); comes = k }
+    go : (r : Refined) → Comes (closure.reported r).number → text ≡ refined_text c.vertices r x.after → Answered text
+    go (refined.Refused n p) k e = headline_answered (refusal n p) e k
+    go (refined.Done d n) k e = record { number = 0; begins = rw e (begins_more (leaf_lines x.after d) (begins_more (p_lines x.after.points x.after.records c.vertices d.vertices) (headline_begins (done d n)))); comes = k }
 
 answered : (r : Reading) {text : List ℕ} → ((n p : ℕ) → r ≡ refused n p → Comes n) → Answer r text → Answered text
-answered (refused n p) c x = headline-answered (refusal n p) x (c n p refl)
+answered (refused n p) c x = headline_answered (refusal n p) x (c n p refl)
 answered (all i) {text} c x = go (opens i) refl x
   where
     go : (o : Opened) → opens i ≡ o → Outcome o i text → Answered text
-    go (opened.Refused n p) e x = headline-answered (refusal n p) x (opens-number i e)
-    go (opened.Done c) e x = refining-answered (opens-unsplit i e) x
+    go (opened.Refused n p) e x = headline_answered (refusal n p) x (opens_number i e)
+    go (opened.Done c) e x = refining_answered (opens_unsplit i e) x
 
 -- no text that the program writes is the C line of number 9 or of number 11 (01, "What comes back")
-pub program-never : {input text : List ℕ} → Program input text → (p : ℕ) → (text ≡ headline (refusal 9 p) → ⊥) × (text ≡ headline (refusal 11 p) → ⊥)
-program-never {input} {text} x p =
+pub program_never : {input text : List ℕ} → Program input text → (p : ℕ) → (text ≡ headline (refusal 9 p) → ⊥) × (text ≡ headline (refusal 11 p) → ⊥)
+program_never {input} {text} x p =
     let a = answered (read_all input) (λ n q e. read_number _ _ _ e) x.answers in
     let few = a.comes.few in (
-      λ e. a.comes.nine (begins-one (omega arith) (omega arith) a.begins (rw e (headline-begins (refusal 9 p)))),
-      λ e. a.comes.eleven (begins-one (omega arith) (omega arith) a.begins (rw e (headline-begins (refusal 11 p)))),
+      λ e. a.comes.nine (begins_one (omega arith) (omega arith) a.begins (rw e (headline_begins (refusal 9 p)))),
+      λ e. a.comes.eleven (begins_one (omega arith) (omega arith) a.begins (rw e (headline_begins (refusal 11 p)))),
     )

@@ -6,34 +6,34 @@ use native.Mathlib.Numerals.{add-one}
 use native.Mathlib.Omega.{arith}
 use lib.Ieee.{Float}
 use lib.ListN.{length, get_or}
-use Rattle.tables.specs.Layout.{pointAt, recordAt, row_at}
-use Rattle.text.specs.Output.{pLine, lLine, leafLine, pLines, lLines, texts, rootOf}
+use Rattle.tables.specs.Layout.{point_at, record_at, row_at}
+use Rattle.text.specs.Output.{p_line, l_line, leaf_line, p_lines, l_lines, texts, root_of}
 use Rattle.text.specs.Putting.{Room, Puts}
 use Rattle.text.specs.Printing.{PrintsMidpoints, PrintsLeaf, PrintsLeaves}
-use Rattle.text.proofs.laws.Putting.{puts-both, puts_none}
+use Rattle.text.proofs.laws.Putting.{puts_both, puts_none}
 
-texts-none : (f : ℕ → List ℕ) → texts f 0 ≡ []
+texts_none : (f : ℕ → List ℕ) → texts f 0 ≡ []
 unfolding texts
-texts-none f = refl
+texts_none f = refl
 
-texts-next : (f : ℕ → List ℕ) (n : ℕ) → texts f (n + 1) ≡ texts f n ++ f n
+texts_next : (f : ℕ → List ℕ) (n : ℕ) → texts f (n + 1) ≡ texts f n ++ f n
 unfolding texts
-texts-next f n = rw (add-one n)
+texts_next f n = rw (add-one n)
 
 -- n texts of w bytes at most are put
 pub record Printed (w : ℕ) (f : ℕ → List ℕ) (n : ℕ) (o : List ℕ) (at : ℕ) (o' : List ℕ) (e : ℕ) : Type 0 where
   pub puts : Puts (w * n) o at (texts f n) o' e
 
-printed-none : (w : ℕ) (f : ℕ → List ℕ) (o : List ℕ) (at : ℕ) → Printed w f 0 o at o at
-printed-none w f o at = record { puts = let z : w * 0 ≡ 0 = omega arith in rw (z, texts-none f) puts_none }
+printed_none : (w : ℕ) (f : ℕ → List ℕ) (o : List ℕ) (at : ℕ) → Printed w f 0 o at o at
+printed_none w f o at = record { puts = let z : w * 0 ≡ 0 = omega arith in rw (z, texts_none f) puts_none }
 
-printed-next : {w : ℕ} {f : ℕ → List ℕ} {n : ℕ} {o o₁ o₂ : List ℕ} {at e g : ℕ} → Printed w f n o at o₁ e → Puts w o₁ e (f n) o₂ g → Printed w f (n + 1) o at o₂ g
-printed-next {w} {f} {n} x y = record { puts = let z : w * (n + 1) ≡ w * n + w = omega arith in rw (z, texts-next f n) (puts-both x.puts y) }
+printed_next : {w : ℕ} {f : ℕ → List ℕ} {n : ℕ} {o o₁ o₂ : List ℕ} {at e g : ℕ} → Printed w f n o at o₁ e → Puts w o₁ e (f n) o₂ g → Printed w f (n + 1) o at o₂ g
+printed_next {w} {f} {n} x y = record { puts = let z : w * (n + 1) ≡ w * n + w = omega arith in rw (z, texts_next f n) (puts_both x.puts y) }
 
 -- ---- midpoints
 
 abbrev midpoint : List Float → List ℕ → ℕ → ℕ → List ℕ
-midpoint p r from j = pLine (from + j) (recordAt r (from + j)) (pointAt p (from + j))
+midpoint p r from j = p_line (from + j) (record_at r (from + j)) (point_at p (from + j))
 
 pub record Midpoints (p : List Float) (r : List ℕ) (from to v : ℕ) (o : List ℕ) (at : ℕ) (o' : List ℕ) (e : ℕ) : Type 0 where
   pub after : from ≤ v
@@ -41,61 +41,61 @@ pub record Midpoints (p : List Float) (r : List ℕ) (from to v : ℕ) (o : List
   pub fits : at + 116 * (to - from) ≤ 262144
   pub printed : Printed 116 (midpoint p r from) (v - from) o at o' e
 
-pub midpoints-start : {p : List Float} {r : List ℕ} {from to : ℕ} {o : List ℕ} {at : ℕ} → PrintsMidpoints from to at → Midpoints p r from to from o at o at
-midpoints-start {p} {r} {from} {o = o} {at} x = record { after = omega arith; within = x.within; fits = x.fits; printed = let z : from - from ≡ 0 = omega arith in rw z (printed-none 116 (midpoint p r from) o at) }
+pub midpoints_start : {p : List Float} {r : List ℕ} {from to : ℕ} {o : List ℕ} {at : ℕ} → PrintsMidpoints from to at → Midpoints p r from to from o at o at
+midpoints_start {p} {r} {from} {o = o} {at} x = record { after = omega arith; within = x.within; fits = x.fits; printed = let z : from - from ≡ 0 = omega arith in rw z (printed_none 116 (midpoint p r from) o at) }
 
 module _ {p : List Float} {r : List ℕ} {from to v : ℕ} {o : List ℕ} {at : ℕ} {o' : List ℕ} {e : ℕ} (x : Midpoints p r from to v o at o' e) where
   module _ (h : v < to) where
-    pub midpoints-room : Room 116 e
-    midpoints-room = record { fits = omega (arith, x.fits, x.after, x.printed.puts.ends, x.printed.puts.few, h) }
+    pub midpoints_room : Room 116 e
+    midpoints_room = record { fits = omega (arith, x.fits, x.after, x.printed.puts.ends, x.printed.puts.few, h) }
 
-    pub midpoints-next : {o₂ : List ℕ} {g : ℕ} → Puts 116 o' e (pLine v (recordAt r v) (pointAt p v)) o₂ g → Midpoints p r from to (v + 1) o at o₂ g
-    midpoints-next y =
+    pub midpoints_next : {o₂ : List ℕ} {g : ℕ} → Puts 116 o' e (p_line v (record_at r v) (point_at p v)) o₂ g → Midpoints p r from to (v + 1) o at o₂ g
+    midpoints_next y =
         let z : v + 1 - from ≡ v - from + 1 = omega (arith, x.after) in
         let s : from + (v - from) ≡ v = omega (arith, x.after) in
-        record { after = omega (arith, x.after); within = omega (arith, h); fits = x.fits; printed = rw z (printed-next x.printed (rw s y)) }
+        record { after = omega (arith, x.after); within = omega (arith, h); fits = x.fits; printed = rw z (printed_next x.printed (rw s y)) }
 
-  pub midpoints-all : to ≤ v → Puts (116 * (to - from)) o at (pLines p r from to) o' e
-  unfolding pLines
-  midpoints-all h = let z : v ≡ to = omega (arith, x.within) in rw z at x.printed.puts
+  pub midpoints_all : to ≤ v → Puts (116 * (to - from)) o at (p_lines p r from to) o' e
+  unfolding p_lines
+  midpoints_all h = let z : v ≡ to = omega (arith, x.within) in rw z at x.printed.puts
 
-pub ruleset midpoints = (midpoints-start, midpoints-room, midpoints-next, midpoints-all)
+pub ruleset midpoints = (midpoints_start, midpoints_room, midpoints_next, midpoints_all)
 
 -- ---- leaves
 
-pub leaf-line : {j : ℕ} {list levels : List ℕ} {at : ℕ} → PrintsLeaf j list levels at → (w : List ℕ) {k : ℕ} → k ≡ get_or list j 0 → {root : ℕ} → root ≡ rootOf w k → {o o' : List ℕ} {e : ℕ} → Puts 191 o at (lLine k root (get_or levels j 0) (row_at w k)) o' e → Puts 191 o at (leafLine w list levels j) o' e
-leaf-line x w q r y = rw (← q) (rw r at y)
+pub leaf_line_lem : {j : ℕ} {list levels : List ℕ} {at : ℕ} → PrintsLeaf j list levels at → (w : List ℕ) {k : ℕ} → k ≡ get_or list j 0 → {root : ℕ} → root ≡ root_of w k → {o o' : List ℕ} {e : ℕ} → Puts 191 o at (l_line k root (get_or levels j 0) (row_at w k)) o' e → Puts 191 o at (leaf_line w list levels j) o' e
+leaf_line_lem x w q r y = rw (← q) (rw r at y)
 
-pub leaf-listed : {j : ℕ} {list levels : List ℕ} {at : ℕ} → PrintsLeaf j list levels at → j < length list
-leaf-listed x = x.listed
+pub leaf_listed : {j : ℕ} {list levels : List ℕ} {at : ℕ} → PrintsLeaf j list levels at → j < length list
+leaf_listed x = x.listed
 
-pub leaf-levelled : {j : ℕ} {list levels : List ℕ} {at : ℕ} → PrintsLeaf j list levels at → j < length levels
-leaf-levelled x = x.levelled
+pub leaf_levelled : {j : ℕ} {list levels : List ℕ} {at : ℕ} → PrintsLeaf j list levels at → j < length levels
+leaf_levelled x = x.levelled
 
-pub ruleset leaf = (leaf-line, leaf-listed, leaf-levelled)
+pub ruleset leaf = (leaf_line_lem, leaf_listed, leaf_levelled)
 
 pub record Leaves (w list levels : List ℕ) (n j : ℕ) (o : List ℕ) (at : ℕ) (o' : List ℕ) (e : ℕ) : Type 0 where
   pub within : j ≤ n
   pub ready : PrintsLeaves n list levels at
-  pub printed : Printed 191 (leafLine w list levels) j o at o' e
+  pub printed : Printed 191 (leaf_line w list levels) j o at o' e
 
-pub leaves-start : {w list levels : List ℕ} {n : ℕ} {o : List ℕ} {at : ℕ} → PrintsLeaves n list levels at → Leaves w list levels n 0 o at o at
-leaves-start {w} {list} {levels} {o = o} {at} x = record { within = omega arith; ready = x; printed = printed-none 191 (leafLine w list levels) o at }
+pub leaves_start : {w list levels : List ℕ} {n : ℕ} {o : List ℕ} {at : ℕ} → PrintsLeaves n list levels at → Leaves w list levels n 0 o at o at
+leaves_start {w} {list} {levels} {o = o} {at} x = record { within = omega arith; ready = x; printed = printed_none 191 (leaf_line w list levels) o at }
 
 module _ {w list levels : List ℕ} {n j : ℕ} {o : List ℕ} {at : ℕ} {o' : List ℕ} {e : ℕ} (x : Leaves w list levels n j o at o' e) where
   module _ (h : j < n) where
-    pub leaves-room : PrintsLeaf j list levels e
-    leaves-room = record {
+    pub leaves_room : PrintsLeaf j list levels e
+    leaves_room = record {
       listed = omega (arith, h, x.ready.listed);
       levelled = omega (arith, h, x.ready.levelled);
       room = record { fits = omega (arith, x.ready.fits, x.printed.puts.ends, x.printed.puts.few, h) };
     }
 
-    pub leaves-next : {o₂ : List ℕ} {g : ℕ} → Puts 191 o' e (leafLine w list levels j) o₂ g → Leaves w list levels n (j + 1) o at o₂ g
-    leaves-next y = record { within = omega (arith, h); ready = x.ready; printed = printed-next x.printed y }
+    pub leaves_next : {o₂ : List ℕ} {g : ℕ} → Puts 191 o' e (leaf_line w list levels j) o₂ g → Leaves w list levels n (j + 1) o at o₂ g
+    leaves_next y = record { within = omega (arith, h); ready = x.ready; printed = printed_next x.printed y }
 
-  pub leaves_all : n ≤ j → Puts (191 * n) o at (lLines w list levels n) o' e
-  unfolding lLines
+  pub leaves_all : n ≤ j → Puts (191 * n) o at (l_lines w list levels n) o' e
+  unfolding l_lines
   leaves_all h = let z : j ≡ n = omega (arith, x.within) in rw z at x.printed.puts
 
-pub ruleset leaves = (leaves-start, leaves-room, leaves-next, leaves_all)
+pub ruleset leaves = (leaves_start, leaves_room, leaves_next, leaves_all)

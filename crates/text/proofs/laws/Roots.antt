@@ -6,108 +6,108 @@ use Prim.Native.Nat.{ℕ, zero, suc, ◌/◌, ◌≤◌, ◌<◌}
 use native.Mathlib.Omega.{arith}
 use lib.ListN.{length, get_or}
 use Rattle.split.specs.declared.row.Row.{Row}
-use Rattle.split.proofs.laws.Places.{le-or-lt}
+use Rattle.split.proofs.laws.Places.{le_or_lt}
 use Rattle.tables.specs.declared.layout.Counts.{Counts}
 use Rattle.tables.specs.Layout.{row_at}
-use Rattle.tables.specs.Mesh.{Lent, meshOf}
+use Rattle.tables.specs.Mesh.{Lent, mesh_of}
 use Rattle.tables.specs.Report.{done}
-use Rattle.tables.proofs.laws.View.{mesh-row}
+use Rattle.tables.proofs.laws.View.{mesh_row}
 use Rattle.opening.specs.declared.answer.Opened.TheVariants as opened
 use Rattle.forest.specs.Element.{Element, depth}
 use Rattle.forest.specs.Shallow as forest
 use Rattle.sound.specs.Sound.{row_of, Sound}
-use Rattle.sound.specs.Forest.{elementOf}
-use Rattle.sound.proofs.laws.Elements.{grown-root, grown-depth, root-element, child-element}
+use Rattle.sound.specs.Forest.{element_of}
+use Rattle.sound.proofs.laws.Elements.{grown_root, grown_depth, root_element, child_element}
 use Rattle.sound.proofs.laws.Placed.{placed}
 use Rattle.closure.specs.declared.answer.Refined.TheVariants as refined
 use Rattle.closure.specs.Refine.{Refines}
-use Rattle.closure.proofs.laws.Accepted.{accepted-sound}
-use Rattle.closure.proofs.laws.Cutting.{member-at}
-use Rattle.closure.proofs.laws.Taken.{sound-rows}
-use Rattle.leaves.specs.Listing.{levelIn, listing}
+use Rattle.closure.proofs.laws.Accepted.{accepted_sound}
+use Rattle.closure.proofs.laws.Cutting.{member_at}
+use Rattle.closure.proofs.laws.Taken.{sound_rows}
+use Rattle.leaves.specs.Listing.{level_in, listing}
 use Rattle.leaves.proofs.laws.Levels.{map_at}
-use Rattle.leaves.proofs.laws.Sound.{sound-listing}
-use Rattle.text.specs.Output.{leafLine, pLines, lLines, rootFrom, rootOf}
+use Rattle.leaves.proofs.laws.Sound.{sound_listing}
+use Rattle.text.specs.Output.{leaf_line, p_lines, l_lines, root_from, root_of}
 use Rattle.text.specs.Input.{Input}
-use Rattle.text.specs.Program.{headline, leafLines, rootedLine, rootedLines, refinedText, Refining, opens, openedTables}
-use Rattle.text.proofs.laws.Mesh.{texts-same}
-use Rattle.text.proofs.laws.Never.{opens-unsplit, opens-rows}
-use Rattle.text.proofs.laws.Putting.{root-here, root_over}
+use Rattle.text.specs.Program.{headline, leaf_lines, rooted_line, rooted_lines, refined_text, Refining, opens, opened_tables}
+use Rattle.text.proofs.laws.Mesh.{texts_same}
+use Rattle.text.proofs.laws.Never.{opens_unsplit, opens_rows}
+use Rattle.text.proofs.laws.Putting.{root_here, root_over}
 
 module _ {t : Lent} {c : Counts} (s : Sound t c) where
   -- the element of row k
   abbrev pub element : ℕ → Element
-  element k = elementOf (meshOf t c) s.roots k
+  element k = element_of (mesh_of t c) s.roots k
 
-  parent_is : (k : ℕ) → k < c.rows → (row_of (meshOf t c) k).parent ≡ (row_at t.rows k).parent
-  parent_is k h = ap (λ (r : Row). r.parent) (mesh-row t c k h)
+  parent_is : (k : ℕ) → k < c.rows → (row_of (mesh_of t c) k).parent ≡ (row_at t.rows k).parent
+  parent_is k h = ap (λ (r : Row). r.parent) (mesh_row t c k h)
 
-  here : (f k : ℕ) → k < c.rows → k < s.roots → rootFrom t.rows f k ≡ forest.rootOf (element k)
-  here f k h p = root-here t.rows f k (rw (← parent_is k h) (s.grown.parted.roots k p)) ∙ rw (root-element (meshOf t c) s.roots k p)
+  here : (f k : ℕ) → k < c.rows → k < s.roots → root_from t.rows f k ≡ forest.root_of (element k)
+  here f k h p = root_here t.rows f k (rw (← parent_is k h) (s.grown.parted.roots k p)) ∙ rw (root_element (mesh_of t c) s.roots k p)
 
   module _ (k : ℕ) (h : k < c.rows) (p : s.roots ≤ k) where
-    l : k < length (meshOf t c).rows
-    l = rw (sound-rows s) h
+    l : k < length (mesh_of t c).rows
+    l = rw (sound_rows s) h
 
     abbrev q : ℕ
-    q = (row_of (meshOf t c) k).parent
+    q = (row_of (mesh_of t c) k).parent
 
-    parent-below : q < c.rows
-    parent-below = omega (arith, (s.grown.child k p l).older, h)
+    parent_below : q < c.rows
+    parent_below = omega (arith, (s.grown.child k p l).older, h)
 
-    parent-depth : depth (element k) ≡ suc (depth (element q))
-    parent-depth = ap depth (child-element s.grown k p l) ∙ grown-depth (s.grown.child k p l).side (element q)
+    parent_depth : depth (element k) ≡ suc (depth (element q))
+    parent_depth = ap depth (child_element s.grown k p l) ∙ grown_depth (s.grown.child k p l).side (element q)
 
-    parent-root : forest.rootOf (element k) ≡ forest.rootOf (element q)
-    parent-root = ap forest.rootOf (child-element s.grown k p l) ∙ grown-root (s.grown.child k p l).side (element q)
+    parent_root : forest.root_of (element k) ≡ forest.root_of (element q)
+    parent_root = ap forest.root_of (child_element s.grown k p l) ∙ grown_root (s.grown.child k p l).side (element q)
 
-    over-child : (f : ℕ) → rootFrom t.rows f q ≡ forest.rootOf (element q) → rootFrom t.rows (suc f) k ≡ forest.rootOf (element k)
-    over-child f e = root_over t.rows f k (rw (← parent_is k h) (s.grown.parted.children k p l)) ∙ rw (← parent_is k h, parent-root) e
+    over_child : (f : ℕ) → root_from t.rows f q ≡ forest.root_of (element q) → root_from t.rows (suc f) k ≡ forest.root_of (element k)
+    over_child f e = root_over t.rows f k (rw (← parent_is k h) (s.grown.parted.children k p l)) ∙ rw (← parent_is k h, parent_root) e
 
   -- as many steps as the element is deep
-  root-reached : (f k : ℕ) → k < c.rows → depth (element k) ≤ f → rootFrom t.rows f k ≡ forest.rootOf (element k)
-  root-reached zero k h d = elim (le-or-lt s.roots k) [ inl p ↦ absurd (omega (arith, parent-depth k h p)) | inr p ↦ here zero k h p ]
-  root-reached (suc f) k h d = elim (le-or-lt s.roots k) [ inl p ↦ over-child k h p f (root-reached f (row_of (meshOf t c) k).parent (parent-below k h p) (omega (arith, parent-depth k h p))) | inr p ↦ here (suc f) k h p ]
+  root_reached : (f k : ℕ) → k < c.rows → depth (element k) ≤ f → root_from t.rows f k ≡ forest.root_of (element k)
+  root_reached zero k h d = elim (le_or_lt s.roots k) [ inl p ↦ absurd (omega (arith, parent_depth k h p)) | inr p ↦ here zero k h p ]
+  root_reached (suc f) k h d = elim (le_or_lt s.roots k) [ inl p ↦ over_child k h p f (root_reached f (row_of (mesh_of t c) k).parent (parent_below k h p) (omega (arith, parent_depth k h p))) | inr p ↦ here (suc f) k h p ]
 
   -- 60 steps reach the root
-  pub root-printed : (k : ℕ) → k < c.rows → rootOf t.rows k ≡ forest.rootOf (element k)
-  root-printed k h = let p = placed s.grown k (rw (sound-rows s) h) in root-reached 60 k h (omega (arith, p.depth, p.shallow))
+  pub root_printed : (k : ℕ) → k < c.rows → root_of t.rows k ≡ forest.root_of (element k)
+  root_printed k h = let p = placed s.grown k (rw (sound_rows s) h) in root_reached 60 k h (omega (arith, p.depth, p.shallow))
 
   -- it is a root row: its own parent
-  pub root_below : (k : ℕ) → k < c.rows → rootOf t.rows k < s.roots
-  root_below k h = rw (root-printed k h) (placed s.grown k (rw (sound-rows s) h)).root
+  pub root_below : (k : ℕ) → k < c.rows → root_of t.rows k < s.roots
+  root_below k h = rw (root_printed k h) (placed s.grown k (rw (sound_rows s) h)).root
 
-  pub root-parent : (k : ℕ) → k < c.rows → (row_at t.rows (rootOf t.rows k)).parent ≡ rootOf t.rows k
-  root-parent k h =
+  pub root_parent : (k : ℕ) → k < c.rows → (row_at t.rows (root_of t.rows k)).parent ≡ root_of t.rows k
+  root_parent k h =
       let b = root_below k h in
-      rw (← parent_is (rootOf t.rows k) (omega (arith, b, s.grown.parted.rows_in, sound-rows s))) (s.grown.parted.roots (rootOf t.rows k) b)
+      rw (← parent_is (root_of t.rows k) (omega (arith, b, s.grown.parted.rows_in, sound_rows s))) (s.grown.parted.roots (root_of t.rows k) b)
 
   -- ---- the L lines
 
   -- the j-th listed leaf
   abbrev leaf : ℕ → ℕ
-  leaf j = get_or (listing (meshOf t c).rows) j 0
+  leaf j = get_or (listing (mesh_of t c).rows) j 0
 
-  leaf-below : (j : ℕ) → j < length (listing (meshOf t c).rows) → leaf j < c.rows
-  leaf-below j h = omega (arith, sound-rows s, (((sound-listing s).are (leaf j)).0 (member-at (listing (meshOf t c).rows) j h)).0)
+  leaf_below : (j : ℕ) → j < length (listing (mesh_of t c).rows) → leaf j < c.rows
+  leaf_below j h = omega (arith, sound_rows s, (((sound_listing s).are (leaf j)).0 (member_at (listing (mesh_of t c).rows) j h)).0)
 
-  pub leaves-rooted : leafLines t c ≡ rootedLines t c s.roots
-  unfolding leafLines lLines rootedLines
-  leaves-rooted =
-      let W = (meshOf t c).rows in
-      texts-same (leafLine t.rows (listing W) (map (levelIn W) (listing W))) (λ j. rootedLine t c s.roots (leaf j)) (length (listing W))
-      (λ j h. rw (root-printed (leaf j) (leaf-below j h), map_at (levelIn W) (listing W) j h))
+  pub leaves_rooted : leaf_lines t c ≡ rooted_lines t c s.roots
+  unfolding leaf_lines l_lines rooted_lines
+  leaves_rooted =
+      let W = (mesh_of t c).rows in
+      texts_same (leaf_line t.rows (listing W) (map (level_in W) (listing W))) (λ j. rooted_line t c s.roots (leaf j)) (length (listing W))
+      (λ j h. rw (root_printed (leaf j) (leaf_below j h), map_at (level_in W) (listing W) j h))
 
 -- what the program prints of an accepted call: its roots are the rows that opening made, one for each T line
-pub printed-rooted : (i : Input) {c d : Counts} {n : ℕ} {t' : Lent} → opens i ≡ opened.Done c → Refines (openedTables i) c i.marks (refined.Done d n) t' → leafLines t' d ≡ rootedLines t' d (length i.elements / 4)
-printed-rooted i {c} {d} {n} {t'} o x =
-    let u = opens-unsplit i o in
-    let w = accepted-sound u.sound x in
-    let roots : w.sound.roots ≡ length i.elements / 4 = w.roots ∙ u.roots-are ∙ opens-rows i o in
-    rw (← roots) (leaves-rooted w.sound)
+pub printed_rooted : (i : Input) {c d : Counts} {n : ℕ} {t' : Lent} → opens i ≡ opened.Done c → Refines (opened_tables i) c i.marks (refined.Done d n) t' → leaf_lines t' d ≡ rooted_lines t' d (length i.elements / 4)
+printed_rooted i {c} {d} {n} {t'} o x =
+    let u = opens_unsplit i o in
+    let w = accepted_sound u.sound x in
+    let roots : w.sound.roots ≡ length i.elements / 4 = w.roots ∙ u.roots_are ∙ opens_rows i o in
+    rw (← roots) (leaves_rooted w.sound)
 
 -- the same of the whole text that the program writes
-pub refining-rooted : (i : Input) {c d : Counts} {n : ℕ} {text : List ℕ} → opens i ≡ opened.Done c → (x : Refining (openedTables i) c i.marks text) → x.answer ≡ refined.Done d n
-    → text ≡ headline (done d n) ++ pLines x.after.points x.after.records c.vertices d.vertices ++ rootedLines x.after d (length i.elements / 4)
-unfolding refinedText
-refining-rooted i o x e = x.prints ∙ rw (e, ← printed-rooted i o (rw e at x.refines))
+pub refining_rooted : (i : Input) {c d : Counts} {n : ℕ} {text : List ℕ} → opens i ≡ opened.Done c → (x : Refining (opened_tables i) c i.marks text) → x.answer ≡ refined.Done d n
+    → text ≡ headline (done d n) ++ p_lines x.after.points x.after.records c.vertices d.vertices ++ rooted_lines x.after d (length i.elements / 4)
+unfolding refined_text
+refining_rooted i o x e = x.prints ∙ rw (e, ← printed_rooted i o (rw e at x.refines))

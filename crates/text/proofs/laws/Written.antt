@@ -11,10 +11,10 @@ module _ {l : List ℕ} {z n : ℕ} {o : List ℕ} (x : Writes l (replicate 2621
   size : length o ≡ 262144
   size = ap length x.stores ∙ length-sets (replicate 262144 z) 0 x.text ∙ length-replicate 262144 z
 
-  pub written-within : n ≤ length o
-  written-within = omega (arith, x.fits, size)
+  pub written_within : n ≤ length o
+  written_within = omega (arith, x.fits, size)
 
-  pub written-size : n ≡ length (take n o)
-  written-size = sym (length-take-le n o written-within)
+  pub written_size : n ≡ length (take n o)
+  written_size = sym (length-take-le n o written_within)
 
-pub ruleset written = (written-within, written-size)
+pub ruleset written = (written_within, written_size)

@@ -1,7 +1,7 @@
 use mathlib.Core.Path.{ap, ◌∙◌}
 use Rattle.split.specs.declared.row.Ends.{Ends}
 use Rattle.split.specs.Row.{edge_of}
-use Rattle.run.specs.Run.{sameEnds}
+use Rattle.run.specs.Run.{same_ends}
 use borrow.Author.Rules.{rules}
 use Rattle.closure.proofs.blocking.has_edge.Statement.{statement}
 use Rattle.closure.proofs.blocking.has_edge.Tie as tie
@@ -16,7 +16,7 @@ same-ends-requires : tie.Need-same-ends-requires
 same-ends-requires c κs = search rules
 
 returns : tie.Need-returns
-returns c = c.same_ends.ensures ∙ ap (λ (e : Ends). sameEnds e c.before.before.before.before.args.e) (c.before.edge.ensures ∙ ap edge_of c.before.before.read.ensures)
+returns c = c.same_ends.ensures ∙ ap (λ (e : Ends). same_ends e c.before.before.before.before.args.e) (c.before.edge.ensures ∙ ap edge_of c.before.before.read.ensures)
 
 pub has-edge-spec : {M : Type 1} → statement M
 has-edge-spec = tie.close (tie.spec read-requires edge-requires same-ends-requires returns)

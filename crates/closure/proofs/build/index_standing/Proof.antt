@@ -1,5 +1,5 @@
 use mathlib.Core.Path.{refl}
-use Rattle.closure.specs.State.{rowPushed}
+use Rattle.closure.specs.State.{row_pushed}
 use Rattle.tables.proofs.laws.Table.{put_on}
 use borrow.Author.Rules.{rules}
 use Rattle.closure.proofs.build.index_standing.Statement.{statement}
@@ -15,7 +15,7 @@ same_length : tie.Need-same-length
 same_length c = search rules
 
 returns : tie.Need-returns
-returns c = put_on rowPushed c.before.before.index-row.ensures refl c.before.before.before.read.ensures
+returns c = put_on row_pushed c.before.before.index-row.ensures refl c.before.before.before.read.ensures
 
 pub index-standing-spec : {M : Type 1} → statement M
 index-standing-spec = tie.close (tie.spec read-requires index-row-requires same_length returns)

@@ -1,5 +1,5 @@
 use borrow.Author.Rules.{rules}
-use Rattle.closure.proofs.laws.Call.{close-finish, close-full, close-done, closing}
+use Rattle.closure.proofs.laws.Call.{close_finish, close_full, close_done, closing}
 use Rattle.closure.proofs.call.close.Statement.{statement}
 use Rattle.closure.proofs.call.close.Tie as tie
 
@@ -22,7 +22,7 @@ enum-known-step-2 : tie.Need-enum-known-step-2
 enum-known-step-2 c = search rules
 
 finish-requires : tie.Need-finish-requires
-finish-requires c κs = close-finish c.before.before.before.before.before.before.before.before.before.before.before.before.before.before.before.before.before.before.before.before.before.before.before.before.before.before.requires c.before.before.before.before.before.before.before.before.before.before.before.before.before.before.before.before.before.before.before.before.room.ensures c.before.before.before.before.before.before.before.before.before.before.before.refine-marks.ensures c.before.before.before.step2.given.1
+finish-requires c κs = close_finish c.before.before.before.before.before.before.before.before.before.before.before.before.before.before.before.before.before.before.before.before.before.before.before.before.before.before.requires c.before.before.before.before.before.before.before.before.before.before.before.before.before.before.before.before.before.before.before.before.room.ensures c.before.before.before.before.before.before.before.before.before.before.before.refine-marks.ensures c.before.before.before.step2.given.1
 
 same_length : tie.Need-same-length
 same_length c = search rules
@@ -34,7 +34,7 @@ same-length-3 : tie.Need-same-length-3
 same-length-3 c = search rules
 
 returns : tie.Need-returns
-returns c = close-full c.before.before.before.before.before.before.before.before.before.before.before.before.before.before.before.before.before.before.before.before.before.before.before.before.before.before.before.before.before.before.before.requires c.before.before.before.before.before.before.before.before.before.before.before.before.before.before.before.before.before.before.before.before.before.before.before.before.before.room.ensures c.before.before.before.before.before.before.before.before.before.before.before.before.before.before.before.before.refine-marks.ensures c.before.before.before.before.before.before.before.before.step.given.1 c.before.before.before.before.undo.ensures
+returns c = close_full c.before.before.before.before.before.before.before.before.before.before.before.before.before.before.before.before.before.before.before.before.before.before.before.before.before.before.before.before.before.before.before.requires c.before.before.before.before.before.before.before.before.before.before.before.before.before.before.before.before.before.before.before.before.before.before.before.before.before.room.ensures c.before.before.before.before.before.before.before.before.before.before.before.before.before.before.before.before.refine-marks.ensures c.before.before.before.before.before.before.before.before.step.given.1 c.before.before.before.before.undo.ensures
 
 same-length-4 : tie.Need-same-length-4
 same-length-4 c = search rules
@@ -49,7 +49,7 @@ same-length-7 : tie.Need-same-length-7
 same-length-7 c = search rules
 
 returns-2 : tie.Need-returns-2
-returns-2 c = close-done c.before.before.before.before.before.before.before.before.before.before.before.before.before.before.before.before.before.before.before.before.before.before.before.before.before.before.before.before.before.requires c.before.before.before.before.before.before.before.before.before.before.before.before.before.before.before.before.before.before.before.before.before.before.before.room.ensures c.before.before.before.before.before.before.before.before.before.before.before.before.before.before.refine-marks.ensures c.before.before.before.before.before.before.step2.given.1 c.before.before.finish.ensures
+returns-2 c = close_done c.before.before.before.before.before.before.before.before.before.before.before.before.before.before.before.before.before.before.before.before.before.before.before.before.before.before.before.before.before.requires c.before.before.before.before.before.before.before.before.before.before.before.before.before.before.before.before.before.before.before.before.before.before.before.room.ensures c.before.before.before.before.before.before.before.before.before.before.before.before.before.before.refine-marks.ensures c.before.before.before.before.before.before.step2.given.1 c.before.before.finish.ensures
 
 pub close_spec : {M : Type 1} → statement M
 close_spec =

@@ -1,5 +1,5 @@
 use borrow.Author.Rules.{rules}
-use Rattle.closure.proofs.laws.Tests.{has-sum}
+use Rattle.closure.proofs.laws.Tests.{has_sum}
 use Rattle.closure.proofs.gather.has.Statement.{statement}
 use Rattle.closure.proofs.gather.has.Tie as tie
 
@@ -25,7 +25,7 @@ add-result-3 : tie.Need-overflow-add-result-3
 add-result-3 c = search rules
 
 returns : tie.Need-returns
-returns c = search (has-sum, rules)
+returns c = search (has_sum, rules)
 
 pub has-spec : {M : Type 1} → statement M
 has-spec =

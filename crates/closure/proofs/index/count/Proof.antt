@@ -1,5 +1,5 @@
 use borrow.Author.Rules.{rules}
-use Rattle.closure.proofs.laws.Uses.{count-one}
+use Rattle.closure.proofs.laws.Uses.{count_one}
 use Rattle.closure.proofs.index.count.Statement.{statement}
 use Rattle.closure.proofs.index.count.Tie as tie
 
@@ -28,7 +28,7 @@ same_length : tie.Need-same-length
 same_length c = search rules
 
 returns : tie.Need-returns
-returns c = search (count-one, rules)
+returns c = search (count_one, rules)
 
 pub count_spec : {M : Type 1} → statement M
 count_spec =

@@ -1,5 +1,5 @@
 use borrow.Author.Rules.{rules}
-use Rattle.closure.proofs.laws.Uses.{row_pushed}
+use Rattle.closure.proofs.laws.Uses.{row_pushed_lem}
 use Rattle.closure.proofs.index.index_row.Statement.{statement}
 use Rattle.closure.proofs.index.index_row.Tie as tie
 
@@ -31,7 +31,7 @@ same_length : tie.Need-same-length
 same_length c = search rules
 
 returns : tie.Need-returns
-returns c = search (row_pushed, rules)
+returns c = search (row_pushed_lem, rules)
 
 pub index-row-spec : {M : Type 1} → statement M
 index-row-spec =

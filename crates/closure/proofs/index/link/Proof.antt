@@ -1,7 +1,7 @@
 use borrow.Author.Rules.{rules}
 use lib.ListN.{length-set}
 use native.Mathlib.Omega.{arith}
-use Rattle.closure.proofs.laws.Uses.{link-stored}
+use Rattle.closure.proofs.laws.Uses.{link_stored}
 use Rattle.closure.proofs.index.link.Statement.{statement}
 use Rattle.closure.proofs.index.link.Tie as tie
 
@@ -36,7 +36,7 @@ same_length : tie.Need-same-length
 same_length c = search rules
 
 returns : tie.Need-returns
-returns c = search (link-stored, rules)
+returns c = search (link_stored, rules)
 
 pub link-spec : {M : Type 1} → statement M
 link-spec =

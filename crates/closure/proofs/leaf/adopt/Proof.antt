@@ -1,7 +1,7 @@
 use mathlib.Core.Path.{ap, ◌∙◌}
 use Rattle.split.specs.declared.row.Row.{Row}
-use Rattle.tables.specs.Layout.{row_at, putRow}
-use Rattle.split.specs.Row.{withChild}
+use Rattle.tables.specs.Layout.{row_at, put_row}
+use Rattle.split.specs.Row.{with_child}
 use borrow.Author.Rules.{rules}
 use Rattle.closure.proofs.leaf.adopt.Statement.{statement}
 use Rattle.closure.proofs.leaf.adopt.Tie as tie
@@ -29,7 +29,7 @@ same_length c = search rules
 
 returns : tie.Need-returns
 returns c = let r = c.before.before.before.before.before.before.read.ensures ∙ ap (row_at _) c.before.before.before.before.before.before.before.wide.ensures in
-    (r, c.before.before.write.ensures ∙ (λ i. putRow c.before.before.before.before.before.before.before.before.before.before.args.rows.now (c.before.before.before.before.wide2.ensures i) ((c.before.before.before.with-child.ensures ∙ ap (λ (x : Row). withChild x c.before.before.before.before.before.before.before.before.before.before.args.n) r) i)))
+    (r, c.before.before.write.ensures ∙ (λ i. put_row c.before.before.before.before.before.before.before.before.before.before.args.rows.now (c.before.before.before.before.wide2.ensures i) ((c.before.before.before.with-child.ensures ∙ ap (λ (x : Row). with_child x c.before.before.before.before.before.before.before.before.before.before.args.n) r) i)))
 
 pub adopt-spec : {M : Type 1} → statement M
 adopt-spec =

@@ -1,6 +1,6 @@
 use mathlib.Core.Path.{refl}
-use Rattle.tables.specs.Layout.{putRow}
-use Rattle.closure.specs.State.{rowPushed}
+use Rattle.tables.specs.Layout.{put_row}
+use Rattle.closure.specs.State.{row_pushed}
 use Rattle.tables.proofs.laws.Table.{put_on}
 use borrow.Author.Rules.{rules}
 use Rattle.closure.proofs.leaf.bear.Statement.{statement}
@@ -28,7 +28,7 @@ same-length-2 : tie.Need-same-length-2
 same-length-2 c = search rules
 
 returns : tie.Need-returns
-returns c = (put_on putRow c.before.before.before.before.append2.ensures.0 (put_on putRow c.before.before.before.before.before.before.before.before.before.before.before.before.append.ensures.0 refl c.before.before.before.before.before.before.before.before.before.before.before.before.before.first.ensures) c.before.before.before.before.before.second.ensures, put_on rowPushed c.before.before.before.before.append2.ensures.1 (put_on rowPushed c.before.before.before.before.before.before.before.before.before.before.before.before.append.ensures.1 refl c.before.before.before.before.before.before.before.before.before.before.before.before.before.first.ensures) c.before.before.before.before.before.second.ensures)
+returns c = (put_on put_row c.before.before.before.before.append2.ensures.0 (put_on put_row c.before.before.before.before.before.before.before.before.before.before.before.before.append.ensures.0 refl c.before.before.before.before.before.before.before.before.before.before.before.before.before.first.ensures) c.before.before.before.before.before.second.ensures, put_on row_pushed c.before.before.before.before.append2.ensures.1 (put_on row_pushed c.before.before.before.before.before.before.before.before.before.before.before.before.append.ensures.1 refl c.before.before.before.before.before.before.before.before.before.before.before.before.before.first.ensures) c.before.before.before.before.before.second.ensures)
 
 pub bear-spec : {M : Type 1} → statement M
 bear-spec =

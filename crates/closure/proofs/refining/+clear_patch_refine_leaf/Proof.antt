@@ -1,9 +1,9 @@
 use borrow.Author.Rules.{rules}
 use Prim.Native.Nat.{ℕ, ◌+◌, ◌-◌, ◌*◌, ◌<◌}
-use Rattle.run.specs.Ready.{rankIn}
+use Rattle.run.specs.Ready.{rank_in}
 use Rattle.closure.specs.State.{seen}
 use Rattle.closure.specs.Refining.{Clearing}
-use Rattle.closure.proofs.laws.Clearing.{half-falls, clearing-falls, records-sized, rows-sized, scratch-sized, clearing, refine-ready, refining}
+use Rattle.closure.proofs.laws.Clearing.{half_falls, clearing_falls, records_sized, rows_sized, scratch_sized, clearing, refine_ready, refining}
 use borrow.Fn.Kinds.{In}
 use borrow.Fn.PlainCycle.{Measures, is, falls, and}
 use Rattle.closure.proofs.refining.clear_patch.Reads as clear-patch
@@ -18,10 +18,10 @@ use Rattle.closure.proofs.refining.+clear_patch_refine_leaf.{statement}
 use Rattle.closure.proofs.refining.+clear_patch_refine_leaf.Tie.{close}
 
 abbrev μ-clear-patch : Measures 3 clear-patch-kinds.ps ℕ
-μ-clear-patch κs a = 2 * rankIn (seen a.0.now a.1.0.now a.1.1.1.0) a.1.1.1.1.1.0
+μ-clear-patch κs a = 2 * rank_in (seen a.0.now a.1.0.now a.1.1.1.0) a.1.1.1.1.1.0
 
 abbrev μ-refine-leaf : Measures 3 refine-leaf-kinds.ps ℕ
-μ-refine-leaf κs a = 2 * rankIn (seen a.0.now a.1.0.now a.1.1.1.0) a.1.1.1.1.1.0 + 1
+μ-refine-leaf κs a = 2 * rank_in (seen a.0.now a.1.0.now a.1.1.1.0) a.1.1.1.1.1.0 + 1
 
 abbrev clear-patch-at : ℕ → In 3 clear-patch-kinds.ps
 clear-patch-at t =
@@ -75,7 +75,7 @@ clear-patch-same-length : (t : ℕ) → clear-patch-lts.Need-same-length (
   refine-leaf-below t,
   refine-leaf.Post,
 ) (clear-patch-at t) clear-patch.Post clear-patch-Inv-loop clear-patch-μ-loop
-clear-patch-same-length t c = search (records-sized, rows-sized, rules)
+clear-patch-same-length t c = search (records_sized, rows_sized, rules)
 
 clear-patch-same-length-2 : (t : ℕ) → clear-patch-lts.Need-same-length-2 (
   look-reads.Asked,
@@ -83,7 +83,7 @@ clear-patch-same-length-2 : (t : ℕ) → clear-patch-lts.Need-same-length-2 (
   refine-leaf-below t,
   refine-leaf.Post,
 ) (clear-patch-at t) clear-patch.Post clear-patch-Inv-loop clear-patch-μ-loop
-clear-patch-same-length-2 t c = search (records-sized, rows-sized, rules)
+clear-patch-same-length-2 t c = search (records_sized, rows_sized, rules)
 
 clear-patch-same-length-3 : (t : ℕ) → clear-patch-lts.Need-same-length-3 (
   look-reads.Asked,
@@ -115,7 +115,7 @@ clear-patch-refine-leaf-requires : (t : ℕ) → clear-patch-lts.Need-refine-lea
   refine-leaf-below t,
   refine-leaf.Post,
 ) (clear-patch-at t) clear-patch.Post clear-patch-Inv-loop clear-patch-μ-loop
-clear-patch-refine-leaf-requires t c κs = (search (half-falls, clearing-falls), search clearing)
+clear-patch-refine-leaf-requires t c κs = (search (half_falls, clearing_falls), search clearing)
 
 clear-patch-enum-known-step : (t : ℕ) → clear-patch-lts.Need-enum-known-step (
   look-reads.Asked,
@@ -131,7 +131,7 @@ clear-patch-same-length-4 : (t : ℕ) → clear-patch-lts.Need-same-length-4 (
   refine-leaf-below t,
   refine-leaf.Post,
 ) (clear-patch-at t) clear-patch.Post clear-patch-Inv-loop clear-patch-μ-loop
-clear-patch-same-length-4 t c = search (records-sized, rows-sized, rules)
+clear-patch-same-length-4 t c = search (records_sized, rows_sized, rules)
 
 clear-patch-same-length-5 : (t : ℕ) → clear-patch-lts.Need-same-length-5 (
   look-reads.Asked,
@@ -139,7 +139,7 @@ clear-patch-same-length-5 : (t : ℕ) → clear-patch-lts.Need-same-length-5 (
   refine-leaf-below t,
   refine-leaf.Post,
 ) (clear-patch-at t) clear-patch.Post clear-patch-Inv-loop clear-patch-μ-loop
-clear-patch-same-length-5 t c = search (records-sized, rows-sized, rules)
+clear-patch-same-length-5 t c = search (records_sized, rows_sized, rules)
 
 clear-patch-same-length-6 : (t : ℕ) → clear-patch-lts.Need-same-length-6 (
   look-reads.Asked,
@@ -147,7 +147,7 @@ clear-patch-same-length-6 : (t : ℕ) → clear-patch-lts.Need-same-length-6 (
   refine-leaf-below t,
   refine-leaf.Post,
 ) (clear-patch-at t) clear-patch.Post clear-patch-Inv-loop clear-patch-μ-loop
-clear-patch-same-length-6 t c = search (scratch-sized, rules)
+clear-patch-same-length-6 t c = search (scratch_sized, rules)
 
 clear-patch-returns-2 : (t : ℕ) → clear-patch-lts.Need-returns-2 (
   look-reads.Asked,
@@ -211,7 +211,7 @@ refine-leaf-cut-patch-requires : (t : ℕ) → refine-leaf-lts.Need-cut-patch-re
   cut-patch-reads.Asked,
   cut-patch-reads.Learnt,
 ) (refine-leaf-at t) refine-leaf.Post
-refine-leaf-cut-patch-requires t c κs = refine-ready c.before.before.before.before.before.before.before.before.before.before.before.before.clear-patch.ensures c.before.before.before.before.cleared2.given.1
+refine-leaf-cut-patch-requires t c κs = refine_ready c.before.before.before.before.before.before.before.before.before.before.before.before.clear-patch.ensures c.before.before.before.before.cleared2.given.1
 
 refine-leaf-same-length : (t : ℕ) → refine-leaf-lts.Need-same-length (
   clear-patch-below t,

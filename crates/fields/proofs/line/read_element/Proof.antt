@@ -1,5 +1,5 @@
 use borrow.Author.Rules.{rules}
-use Rattle.fields.proofs.laws.Lines.{number_small, element-fields}
+use Rattle.fields.proofs.laws.Lines.{number_small, element_fields}
 use Rattle.fields.proofs.line.read_element.Statement.{statement}
 use Rattle.fields.proofs.line.read_element.Tie as tie
 
@@ -31,7 +31,7 @@ element-requires : tie.Need-element-requires
 element-requires c κs = search (number_small, rules)
 
 returns : tie.Need-returns
-returns c = search (element-fields, rules)
+returns c = search (element_fields, rules)
 
 pub read-element-spec : {M : Type 1} → statement M
 read-element-spec =

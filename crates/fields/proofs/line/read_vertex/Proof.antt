@@ -1,5 +1,5 @@
 use borrow.Author.Rules.{rules}
-use Rattle.fields.proofs.laws.Lines.{vertex-fields}
+use Rattle.fields.proofs.laws.Lines.{vertex_fields}
 use Rattle.fields.proofs.line.read_vertex.Statement.{statement}
 use Rattle.fields.proofs.line.read_vertex.Tie as tie
 
@@ -25,7 +25,7 @@ vertex-requires : tie.Need-vertex-requires
 vertex-requires c κs = search rules
 
 returns : tie.Need-returns
-returns c = search (vertex-fields, rules)
+returns c = search (vertex_fields, rules)
 
 pub read-vertex-spec : {M : Type 1} → statement M
 read-vertex-spec =

@@ -1,13 +1,13 @@
 use Prim.Native.Nat.{◌-◌}
 use borrow.Author.Rules.{rules}
 use lib.ListN.{get_or}
-use Rattle.frame.specs.Marks.{deepAt}
+use Rattle.frame.specs.Marks.{deep_at}
 use Rattle.frame.proofs.laws.Marks.{Spared, sparing}
 use Rattle.frame.proofs.marks.any_deep.Statement.{statement}
 use Rattle.frame.proofs.marks.any_deep.Tie as tie
 
 abbrev invariant-loop : tie.invariant-loop
-invariant-loop rows marks end j₀ j = Spared (λ i. deepAt rows (get_or marks i 0)) end j
+invariant-loop rows marks end j₀ j = Spared (λ i. deep_at rows (get_or marks i 0)) end j
 
 abbrev decreases-loop : tie.decreases-loop
 decreases-loop rows marks end j₀ j = end - j

@@ -1,5 +1,5 @@
 use mathlib.Core.Path.{ap, ◌∙◌}
-use Rattle.frame.specs.Marks.{deepAt}
+use Rattle.frame.specs.Marks.{deep_at}
 use borrow.Author.Rules.{rules}
 use Rattle.frame.proofs.marks.marks_deep.Statement.{statement}
 use Rattle.frame.proofs.marks.marks_deep.Tie as tie
@@ -17,7 +17,7 @@ is-deep-requires : tie.Need-is-deep-requires
 is-deep-requires c κs = search rules
 
 returns : tie.Need-returns
-returns c = c.is-deep.ensures ∙ ap (deepAt _) c.before.wide.ensures
+returns c = c.is-deep.ensures ∙ ap (deep_at _) c.before.wide.ensures
 
 pub marks-deep-spec : {M : Type 1} → statement M
 marks-deep-spec =

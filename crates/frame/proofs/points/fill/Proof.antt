@@ -1,12 +1,12 @@
 use Prim.Native.Nat.{◌-◌}
 use borrow.Author.Rules.{rules}
-use Rattle.frame.specs.Points.{withPoint}
+use Rattle.frame.specs.Points.{with_point}
 use Rattle.frame.proofs.laws.Steps.{Stepping, stepping}
 use Rattle.frame.proofs.points.fill.Statement.{statement}
 use Rattle.frame.proofs.points.fill.Tie as tie
 
 abbrev invariant-loop : tie.invariant-loop
-invariant-loop points₀ records from to end v₀ points v = Stepping (withPoint records) points₀ from end points v
+invariant-loop points₀ records from to end v₀ points v = Stepping (with_point records) points₀ from end points v
 
 abbrev decreases-loop : tie.decreases-loop
 decreases-loop points₀ records from to end v₀ points v = end - v

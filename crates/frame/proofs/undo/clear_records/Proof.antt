@@ -1,12 +1,12 @@
 use Prim.Native.Nat.{◌-◌}
 use borrow.Author.Rules.{rules}
-use Rattle.frame.specs.Undo.{withoutRecord}
+use Rattle.frame.specs.Undo.{without_record}
 use Rattle.frame.proofs.laws.Steps.{Stepping, stepping}
 use Rattle.frame.proofs.undo.clear_records.Statement.{statement}
 use Rattle.frame.proofs.undo.clear_records.Tie as tie
 
 abbrev invariant-loop : tie.invariant-loop
-invariant-loop records₀ from to end k₀ records k = Stepping withoutRecord records₀ from end records k
+invariant-loop records₀ from to end k₀ records k = Stepping without_record records₀ from end records k
 
 abbrev decreases-loop : tie.decreases-loop
 decreases-loop records₀ from to end k₀ records k = end - k

@@ -1,12 +1,12 @@
 use Prim.Native.Nat.{◌-◌}
 use borrow.Author.Rules.{rules}
-use Rattle.frame.specs.Undo.{withoutRow}
+use Rattle.frame.specs.Undo.{without_row}
 use Rattle.frame.proofs.laws.Steps.{Stepping, stepping}
 use Rattle.frame.proofs.undo.clear_rows.Statement.{statement}
 use Rattle.frame.proofs.undo.clear_rows.Tie as tie
 
 abbrev invariant-loop : tie.invariant-loop
-invariant-loop rows₀ from to end k₀ rows k = Stepping withoutRow rows₀ from end rows k
+invariant-loop rows₀ from to end k₀ rows k = Stepping without_row rows₀ from end rows k
 
 abbrev decreases-loop : tie.decreases-loop
 decreases-loop rows₀ from to end k₀ rows k = end - k

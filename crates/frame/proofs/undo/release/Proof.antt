@@ -1,12 +1,12 @@
 use Prim.Native.Nat.{◌-◌}
 use borrow.Author.Rules.{rules}
-use Rattle.frame.specs.Undo.{withRestored}
+use Rattle.frame.specs.Undo.{with_restored}
 use Rattle.frame.proofs.laws.Steps.{Stepping, stepping}
 use Rattle.frame.proofs.undo.release.Statement.{statement}
 use Rattle.frame.proofs.undo.release.Tie as tie
 
 abbrev invariant-loop : tie.invariant-loop
-invariant-loop rows₀ n end k₀ rows k = Stepping (withRestored n) rows₀ 0 end rows k
+invariant-loop rows₀ n end k₀ rows k = Stepping (with_restored n) rows₀ 0 end rows k
 
 abbrev decreases-loop : tie.decreases-loop
 decreases-loop rows₀ n end k₀ rows k = end - k

@@ -1,5 +1,5 @@
 use mathlib.Core.Path.{refl, ap, ◌∙◌}
-use Rattle.tables.specs.Layout.{putRow}
+use Rattle.tables.specs.Layout.{put_row}
 use Rattle.frame.specs.Undo.{restored}
 use Rattle.tables.proofs.laws.Table.{put_on}
 use borrow.Author.Rules.{rules}
@@ -19,7 +19,7 @@ same_length : tie.Need-same-length
 same_length c = search rules
 
 returns : tie.Need-returns
-returns c = put_on putRow c.before.before.write.ensures refl (c.before.before.before.restored.ensures ∙ ap (restored _) c.before.before.before.before.before.read.ensures)
+returns c = put_on put_row c.before.before.write.ensures refl (c.before.before.before.restored.ensures ∙ ap (restored _) c.before.before.before.before.before.read.ensures)
 
 pub release-row-spec : {M : Type 1} → statement M
 release-row-spec =

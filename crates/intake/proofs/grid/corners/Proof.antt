@@ -1,5 +1,5 @@
 use borrow.Author.Rules.{rules}
-use Rattle.intake.proofs.laws.Grid.{row-four, quad-four}
+use Rattle.intake.proofs.laws.Grid.{row_four, quad_four}
 use Rattle.intake.proofs.grid.corners.Statement.{statement}
 use Rattle.intake.proofs.grid.corners.Tie as tie
 
@@ -34,7 +34,7 @@ part-requires : tie.Need-part-requires
 part-requires c κs = search rules
 
 returns-2 : tie.Need-returns-2
-returns-2 c = search (row-four, rules)
+returns-2 c = search (row_four, rules)
 
 each-requires-2 : tie.Need-each-requires-2
 each-requires-2 c κs = search rules
@@ -67,7 +67,7 @@ part-requires-2 : tie.Need-part-requires-2
 part-requires-2 c κs = search rules
 
 returns-4 : tie.Need-returns-4
-returns-4 c = search (quad-four, rules)
+returns-4 c = search (quad_four, rules)
 
 pub corners-spec : {M : Type 1} → statement M
 corners-spec =

@@ -1,5 +1,5 @@
 use borrow.Author.Rules.{rules}
-use Rattle.intake.specs.Cells.{fourOf}
+use Rattle.intake.specs.Cells.{four_of}
 use Rattle.intake.proofs.grid.each.Statement.{statement}
 use Rattle.intake.proofs.grid.each.Tie as tie
 
@@ -16,7 +16,7 @@ number-at-requires-4 : tie.Need-number-at-requires-4
 number-at-requires-4 c κs = search rules
 
 returns : tie.Need-returns
-unfolding fourOf
+unfolding four_of
 returns c = cc
 
 pub each_spec : {M : Type 1} → statement M

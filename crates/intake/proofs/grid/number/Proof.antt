@@ -1,5 +1,5 @@
 use borrow.Author.Rules.{rules}
-use Rattle.intake.proofs.laws.Grid.{behind-at}
+use Rattle.intake.proofs.laws.Grid.{behind_at}
 use Rattle.intake.proofs.grid.number.Statement.{statement}
 use Rattle.intake.proofs.grid.number.Tie as tie
 
@@ -7,7 +7,7 @@ sub-if1 : tie.Need-overflow-sub-if1
 sub-if1 c = search rules
 
 returns : tie.Need-returns
-returns c = search (behind-at, rules)
+returns c = search (behind_at, rules)
 
 add-result : tie.Need-overflow-add-result
 add-result c = search rules

@@ -1,5 +1,5 @@
 use borrow.Author.Rules.{rules}
-use Rattle.intake.specs.Cells.{fourOf}
+use Rattle.intake.specs.Cells.{four_of}
 use Rattle.intake.proofs.grid.part.Statement.{statement}
 use Rattle.intake.proofs.grid.part.Tie as tie
 
@@ -16,7 +16,7 @@ shared-slice-read-t9 : tie.Need-shared-slice-read-t9
 shared-slice-read-t9 c = search rules
 
 returns : tie.Need-returns
-unfolding fourOf
+unfolding four_of
 returns c = search rules
 
 pub part-spec : {M : Type 1} → statement M

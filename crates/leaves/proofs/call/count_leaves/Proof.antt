@@ -1,6 +1,6 @@
 use borrow.Author.Rules.{rules, Fits-under}
 use Prim.Native.Nat.{◌-◌}
-use Rattle.leaves.proofs.laws.Counting.{Counted, counted-fits, counting}
+use Rattle.leaves.proofs.laws.Counting.{Counted, counted_fits, counting}
 use Rattle.leaves.proofs.call.count_leaves.Statement.{statement}
 use Rattle.leaves.proofs.call.count_leaves.Tie as tie
 
@@ -17,7 +17,7 @@ leaf-at-requires : tie.Need-leaf-at-requires invariant-loop decreases-loop
 leaf-at-requires c κs = search (counting, rules)
 
 add-size : tie.Need-overflow-add-size invariant-loop decreases-loop
-add-size c = Fits-under _ _ 100001 (search (counted-fits, rules)) tt
+add-size c = Fits-under _ _ 100001 (search (counted_fits, rules)) tt
 
 add-k : tie.Need-overflow-add-k invariant-loop decreases-loop
 add-k c = search (counting, rules)

@@ -1,5 +1,5 @@
 use borrow.Author.Rules.{rules}
-use Rattle.leaves.proofs.laws.Filling.{one-stored}
+use Rattle.leaves.proofs.laws.Filling.{one_stored}
 use Rattle.leaves.proofs.walk.list_leaf.Statement.{statement}
 use Rattle.leaves.proofs.walk.list_leaf.Tie as tie
 
@@ -25,7 +25,7 @@ same-length-2 : tie.Need-same-length-2
 same-length-2 c = search rules
 
 returns : tie.Need-returns
-returns c = search (one-stored, rules)
+returns c = search (one_stored, rules)
 
 pub list-leaf-spec : {M : Type 1} → statement M
 list-leaf-spec =

@@ -1,25 +1,25 @@
 -- `opening::agree::compare`: where the tests pass, the table has the colours of Algorithm 2.
 use mathlib.Core.Path.{refl, sym, ◌∙◌}
-use Rattle.opening.specs.Scratch.{paintLength}
-use Rattle.opening.proofs.laws.Indexing.{zeros-clear, zeros-count}
+use Rattle.opening.specs.Scratch.{paint_length}
+use Rattle.opening.proofs.laws.Indexing.{zeros_clear, zeros_count}
 use borrow.Author.Tests.{not-true, not-false}
-use Rattle.opening.proofs.laws.Painted.{most-largest}
-use Rattle.opening.proofs.laws.Agree.{agreed-refused, agreed-records, agreed-rows}
+use Rattle.opening.proofs.laws.Painted.{most_largest}
+use Rattle.opening.proofs.laws.Agree.{agreed_refused, agreed_records, agreed_rows}
 use borrow.Author.Rules.{rules}
 use Rattle.opening.proofs.agree.compare.Statement.{statement}
 use Rattle.opening.proofs.agree.compare.Tie as tie
 
 slice-aggregate-judge-given : tie.Need-slice-aggregate-judge-given
-slice-aggregate-judge-given c = zeros-count paintLength
+slice-aggregate-judge-given c = zeros_count paint_length
 
 judge-given-requires : tie.Need-judge-given-requires
-judge-given-requires c κs = (search rules, zeros-clear paintLength refl)
+judge-given-requires c κs = (search rules, zeros_clear paint_length refl)
 
 enum_told : tie.Need-enum-told
 enum_told c = c.match.keys1
 
 returns : tie.Need-returns
-returns c = agreed-refused _ _ _ _ c.before.before.before.before.before.judge-given.ensures c.enum_told.given.1
+returns c = agreed_refused _ _ _ _ c.before.before.before.before.before.judge-given.ensures c.enum_told.given.1
 
 same_length : tie.Need-same-length
 same_length c = c.before.before.before.before.before.judge-given.auto.1.1.1.0
@@ -34,7 +34,7 @@ records-agree-requires : tie.Need-records-agree-requires
 records-agree-requires c κs = (c.before.before.before.before.before.before.judge-given.ensures.size, (c.before.before.before.before.before.before.judge-given.ensures.plain c.before.enum-told2.given.1).most)
 
 returns-2 : tie.Need-returns-2
-returns-2 c = agreed-records _ _ _ _ c.before.before.before.before.before.before.before.before.judge-given.ensures c.before.before.before.enum-told2.given.1 c.before.records-agree.ensures (not-true c.before.records-agree.result c.if1.true)
+returns-2 c = agreed_records _ _ _ _ c.before.before.before.before.before.before.before.before.judge-given.ensures c.before.before.before.enum-told2.given.1 c.before.records-agree.ensures (not-true c.before.records-agree.result c.if1.true)
 
 same-length-2 : tie.Need-same-length-2
 same-length-2 c = c.before.before.before.before.before.before.before.before.judge-given.auto.1.1.1.0
@@ -52,7 +52,7 @@ rows-agree-requires : tie.Need-rows-agree-requires
 rows-agree-requires c κs = (c.before.before.before.before.before.before.before.before.before.before.before.judge-given.ensures.plain c.before.before.before.before.before.before.enum-told2.given.1, c.before.before.before.before.before.before.before.before.before.before.before.judge-given.ensures.size)
 
 returns-3 : tie.Need-returns-3
-returns-3 c = agreed-rows _ _ _ _ c.before.before.before.before.before.before.before.before.before.before.before.before.judge-given.ensures c.before.before.before.before.before.before.before.enum-told2.given.1 c.before.before.before.before.before.records-agree.ensures (not-false c.before.before.before.before.before.records-agree.result c.before.before.before.before.if1.false) (c.before.before.largest-colour.ensures ∙ most-largest (c.before.before.before.before.before.before.before.before.before.before.before.before.judge-given.ensures.painted c.before.before.before.before.before.before.before.enum-told2.given.1)) c.rows_agree.ensures
+returns-3 c = agreed_rows _ _ _ _ c.before.before.before.before.before.before.before.before.before.before.before.before.judge-given.ensures c.before.before.before.before.before.before.before.enum-told2.given.1 c.before.before.before.before.before.records-agree.ensures (not-false c.before.before.before.before.before.records-agree.result c.before.before.before.before.if1.false) (c.before.before.largest-colour.ensures ∙ most_largest (c.before.before.before.before.before.before.before.before.before.before.before.before.judge-given.ensures.painted c.before.before.before.before.before.before.before.enum-told2.given.1)) c.rows_agree.ensures
 
 same-length-3 : tie.Need-same-length-3
 same-length-3 c = search rules

@@ -3,22 +3,22 @@ use mathlib.Core.Path.{◌∙◌}
 use Prim.Native.Nat.{◌-◌}
 use borrow.Author.Rules.{rules}
 use borrow.Author.Tests.{not-true, not-false}
-use Rattle.tables.specs.Layout.{recordAt}
+use Rattle.tables.specs.Layout.{record_at}
 use Rattle.opening.specs.Opening.{initial}
-use Rattle.opening.specs.Scratch.{colourIn}
-use Rattle.opening.specs.Agree.{sameRecord, recordsAgree}
-use Rattle.opening.proofs.laws.Agree.{Agreeing, agreeing-start, agreeing-on, agreeing-stop, agreeing-end}
+use Rattle.opening.specs.Scratch.{colour_in}
+use Rattle.opening.specs.Agree.{same_record, records_agree}
+use Rattle.opening.proofs.laws.Agree.{Agreeing, agreeing_start, agreeing_on, agreeing_stop, agreeing_end}
 use Rattle.opening.proofs.agree.records_agree.Statement.{statement}
 use Rattle.opening.proofs.agree.records_agree.Tie as tie
 
 abbrev invariant-loop : tie.invariant-loop
-invariant-loop paint vertices records v₀ v = Agreeing (λ v. sameRecord (recordAt records v) (initial (colourIn paint v))) vertices v
+invariant-loop paint vertices records v₀ v = Agreeing (λ v. same_record (record_at records v) (initial (colour_in paint v))) vertices v
 
 abbrev decreases-loop : tie.decreases-loop
 decreases-loop paint vertices records v₀ v = vertices - v
 
 loop-holds : tie.Need-loop-init invariant-loop decreases-loop
-loop-holds c = agreeing-start
+loop-holds c = agreeing_start
 
 read-requires : tie.Need-read-requires invariant-loop decreases-loop
 read-requires c κs = search rules
@@ -30,8 +30,8 @@ same-record-requires : tie.Need-same-record-requires invariant-loop decreases-lo
 same-record-requires c κs = search rules
 
 returns : tie.Need-returns invariant-loop decreases-loop
-unfolding recordsAgree
-returns c = agreeing-stop c.before.before.before.before.before.loop.invariant {r = c.before.same-record.result} (search rules) (c.before.same-record.ensures ∙ (λ i. sameRecord (c.before.before.before.read.ensures i) (c.before.before.initial-record.ensures i))) (not-true _ c.if1.true)
+unfolding records_agree
+returns c = agreeing_stop c.before.before.before.before.before.loop.invariant {r = c.before.same_record_lem.result} (search rules) (c.before.same_record_lem.ensures ∙ (λ i. same_record (c.before.before.before.read.ensures i) (c.before.before.initial_record.ensures i))) (not-true _ c.if1.true)
 
 add-v : tie.Need-overflow-add-v invariant-loop decreases-loop
 add-v c = search rules
@@ -40,11 +40,11 @@ loop-less : tie.Need-loop-smaller invariant-loop decreases-loop
 loop-less c = search rules
 
 loop-again : tie.Need-loop-preserved invariant-loop decreases-loop
-loop-again c = agreeing-on c.before.before.before.before.before.loop.invariant {r = c.before.same-record.result} (search rules) (c.before.same-record.ensures ∙ (λ i. sameRecord (c.before.before.before.read.ensures i) (c.before.before.initial-record.ensures i))) (not-false _ c.if1.false)
+loop-again c = agreeing_on c.before.before.before.before.before.loop.invariant {r = c.before.same_record_lem.result} (search rules) (c.before.same_record_lem.ensures ∙ (λ i. same_record (c.before.before.before.read.ensures i) (c.before.before.initial_record.ensures i))) (not-false _ c.if1.false)
 
 returns-2 : tie.Need-returns-2 invariant-loop decreases-loop
-unfolding recordsAgree
-returns-2 c = agreeing-end c.before.loop.invariant (search rules)
+unfolding records_agree
+returns-2 c = agreeing_end c.before.loop.invariant (search rules)
 
 pub records-agree-spec : {M : Type 1} → statement M
 records-agree-spec =

@@ -2,7 +2,7 @@
 use Prim.Native.Nat.{◌-◌}
 use borrow.Author.Rules.{rules}
 use Rattle.intake.specs.Cells.{cells}
-use Rattle.opening.proofs.laws.Painted.{Colouring, colouring-start, colouring-step, colouring-stop, colouring-done}
+use Rattle.opening.proofs.laws.Painted.{Colouring, colouring_start, colouring_step, colouring_stop, colouring_done}
 use Rattle.opening.proofs.colours.colour_all.Statement.{statement}
 use Rattle.opening.proofs.colours.colour_all.Tie as tie
 
@@ -13,7 +13,7 @@ abbrev decreases-loop : tie.decreases-loop
 decreases-loop elements grid vertices index paint₀ v₀ paint v = vertices - v
 
 loop-holds : tie.Need-loop-init invariant-loop decreases-loop
-loop-holds c = search (colouring-start, rules)
+loop-holds c = search (colouring_start, rules)
 
 colour-at-requires : tie.Need-colour-at-requires invariant-loop decreases-loop
 colour-at-requires c κs = (search rules, (search rules, (search rules, (search rules, search rules))))
@@ -22,7 +22,7 @@ same_length : tie.Need-same-length invariant-loop decreases-loop
 same_length c = search rules
 
 returns : tie.Need-returns invariant-loop decreases-loop
-returns c = search (colouring-stop, rules)
+returns c = search (colouring_stop, rules)
 
 cast-paint : tie.Need-overflow-cast-paint invariant-loop decreases-loop
 cast-paint c = search rules
@@ -40,13 +40,13 @@ loop-less : tie.Need-loop-smaller invariant-loop decreases-loop
 loop-less c = search rules
 
 loop-again : tie.Need-loop-preserved invariant-loop decreases-loop
-loop-again c = search (colouring-step, rules)
+loop-again c = search (colouring_step, rules)
 
 same-length-2 : tie.Need-same-length-2 invariant-loop decreases-loop
 same-length-2 c = search rules
 
 returns-2 : tie.Need-returns-2 invariant-loop decreases-loop
-returns-2 c = search (colouring-done, rules)
+returns-2 c = search (colouring_done, rules)
 
 pub colour-all-spec : {M : Type 1} → statement M
 colour-all-spec =

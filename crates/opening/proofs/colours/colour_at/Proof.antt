@@ -1,7 +1,7 @@
 -- `opening::colours::colour_at` meets its contract: the flags are the taken colours. Assumes nothing.
 use mathlib.Core.Path.{refl}
 use borrow.Author.Rules.{rules}
-use Rattle.opening.proofs.laws.Painted.{unmarked-colour}
+use Rattle.opening.proofs.laws.Painted.{unmarked_colour}
 use Rattle.opening.proofs.colours.colour_at.Statement.{statement}
 use Rattle.opening.proofs.colours.colour_at.Tie as tie
 
@@ -18,7 +18,7 @@ first-free-requires : tie.Need-first-free-requires
 first-free-requires c κs = search rules
 
 returns : tie.Need-returns
-returns c = search (unmarked-colour, rules)
+returns c = search (unmarked_colour, rules)
 
 pub colour-at-spec : {M : Type 1} → statement M
 colour-at-spec =

@@ -4,7 +4,7 @@ use Prim.Native.Nat.{ℕ, ◌≤◌, ◌<◌, ◌-◌}
 use borrow.Author.Count.{below_more}
 use borrow.Author.Rules.{rules}
 use lib.ListN.{length, get_or}
-use Rattle.opening.proofs.laws.Free.{unmarked-only}
+use Rattle.opening.proofs.laws.Free.{unmarked_only}
 use Rattle.opening.proofs.colours.first_free.Statement.{statement}
 use Rattle.opening.proofs.colours.first_free.Tie as tie
 
@@ -24,7 +24,7 @@ shared-slice-read-if1 : tie.Need-shared-slice-read-if1 invariant-loop decreases-
 shared-slice-read-if1 c = search rules
 
 returns : tie.Need-returns invariant-loop decreases-loop
-returns c = sym (unmarked-only _ _ _ (search rules) c.before.before.before.loop.invariant.2 (λ h. c.if1.true))
+returns c = sym (unmarked_only _ _ _ (search rules) c.before.before.before.loop.invariant.2 (λ h. c.if1.true))
 
 add-c : tie.Need-overflow-add-c invariant-loop decreases-loop
 add-c c = search rules
@@ -36,7 +36,7 @@ loop-again : tie.Need-loop-preserved invariant-loop decreases-loop
 loop-again c = (search rules, search rules, below_more _ _ c.before.before.before.loop.invariant.2 c.if1.false)
 
 returns-2 : tie.Need-returns-2 invariant-loop decreases-loop
-returns-2 c = sym (unmarked-only _ _ _ (search rules) c.before.loop.invariant.2 (λ h. absurd (search rules)))
+returns-2 c = sym (unmarked_only _ _ _ (search rules) c.before.loop.invariant.2 (λ h. absurd (search rules)))
 
 pub first-free-spec : {M : Type 1} → statement M
 first-free-spec =

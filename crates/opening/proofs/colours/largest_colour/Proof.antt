@@ -5,7 +5,7 @@ use Prim.Native.Nat.{◌≤◌, ◌-◌}
 use native.Mathlib.Omega.{arith}
 use borrow.Author.Rules.{rules}
 use Rattle.opening.specs.Scratch.{most_of}
-use Rattle.opening.proofs.laws.Painted.{most-none, most-next}
+use Rattle.opening.proofs.laws.Painted.{most_none, most_next}
 use Rattle.opening.proofs.colours.largest_colour.Statement.{statement}
 use Rattle.opening.proofs.colours.largest_colour.Tie as tie
 
@@ -16,7 +16,7 @@ abbrev decreases-loop : tie.decreases-loop
 decreases-loop paint vertices most₀ v₀ most v = vertices - v
 
 loop-holds : tie.Need-loop-init invariant-loop decreases-loop
-loop-holds c = (search rules, sym (most-none _))
+loop-holds c = (search rules, sym (most_none _))
 
 mul-if1 : tie.Need-overflow-mul-if1 invariant-loop decreases-loop
 mul-if1 c = search rules
@@ -38,7 +38,7 @@ loop-less c = search rules
 
 loop-again : tie.Need-loop-preserved invariant-loop decreases-loop
 loop-again c =
-    let n = most-next c.before.before.before.before.args.paint.now c.before.before.before.loop.v in
+    let n = most_next c.before.before.before.before.args.paint.now c.before.before.before.loop.v in
     (search rules, ⊎_elim (λ w. omega arith) (λ w. omega arith) c.if1.branch)
 
 returns : tie.Need-returns invariant-loop decreases-loop

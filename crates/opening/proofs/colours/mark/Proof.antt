@@ -1,6 +1,6 @@
 -- `opening::colours::mark` meets its contract: a store past the last flag changes nothing. Assumes nothing.
 use borrow.Author.Rules.{rules}
-use Rattle.opening.proofs.laws.Marks.{marked-not, marked-set, marked-out}
+use Rattle.opening.proofs.laws.Marks.{marked_not, marked_set, marked_out}
 use Rattle.opening.proofs.colours.mark.Statement.{statement}
 use Rattle.opening.proofs.colours.mark.Tie as tie
 
@@ -23,13 +23,13 @@ same_length : tie.Need-same-length
 same_length c = search rules
 
 returns : tie.Need-returns
-returns c = marked-set _ _ _ _ (search rules) (search rules)
+returns c = marked_set _ _ _ _ (search rules) (search rules)
 
 returns-2 : tie.Need-returns-2
-returns-2 c = marked-out _ _ _ _ (search rules) c.before.wide.ensures (search rules)
+returns-2 c = marked_out _ _ _ _ (search rules) c.before.wide.ensures (search rules)
 
 returns-3 : tie.Need-returns-3
-returns-3 c = marked-not _ _ _ _ (search rules)
+returns-3 c = marked_not _ _ _ _ (search rules)
 
 pub mark_spec : {M : Type 1} → statement M
 mark_spec =

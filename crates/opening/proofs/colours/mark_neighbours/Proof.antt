@@ -1,7 +1,7 @@
 -- `opening::colours::mark_neighbours` meets its contract. The invariant: the slots of v from `at` on are behind the walk; each next place is smaller. Assumes nothing.
 use borrow.Author.Rules.{rules}
 use Rattle.intake.specs.Cells.{cells}
-use Rattle.opening.proofs.laws.Marks.{Walked, walked_start, walked-less, walked_step, walked-size, walked-done}
+use Rattle.opening.proofs.laws.Marks.{Walked, walked_start, walked_less, walked_step, walked_size, walked_done}
 use Rattle.opening.proofs.colours.mark_neighbours.Statement.{statement}
 use Rattle.opening.proofs.colours.mark_neighbours.Tie as tie
 
@@ -42,16 +42,16 @@ wide-requires-2 : tie.Need-wide-requires-2 invariant-loop decreases-loop
 wide-requires-2 c κs = search rules
 
 loop-less : tie.Need-loop-smaller invariant-loop decreases-loop
-loop-less c = search (walked-less, rules)
+loop-less c = search (walked_less, rules)
 
 loop-again : tie.Need-loop-preserved invariant-loop decreases-loop
 loop-again c = search (walked_step, rules)
 
 same_length : tie.Need-same-length invariant-loop decreases-loop
-same_length c = search (walked-size, rules)
+same_length c = search (walked_size, rules)
 
 returns : tie.Need-returns invariant-loop decreases-loop
-returns c = search (walked-done, rules)
+returns c = search (walked_done, rules)
 
 pub mark-neighbours-spec : {M : Type 1} → statement M
 mark-neighbours-spec =

@@ -1,5 +1,5 @@
 use borrow.Author.Rules.{rules}
-use Rattle.opening.proofs.laws.Faces.{meets-near, meets-far}
+use Rattle.opening.proofs.laws.Faces.{meets_near, meets_far}
 use Rattle.opening.proofs.faces.meets.Statement.{statement}
 use Rattle.opening.proofs.faces.meets.Tie as tie
 
@@ -16,7 +16,7 @@ around-requires : tie.Need-around-requires
 around-requires c κs = (search rules, (search rules, (search rules, (search rules, search rules))))
 
 returns : tie.Need-returns
-returns c = search meets-near
+returns c = search meets_near
 
 other-requires-2 : tie.Need-other-requires-2
 other-requires-2 c κs = search rules
@@ -25,7 +25,7 @@ around-requires-2 : tie.Need-around-requires-2
 around-requires-2 c κs = (search rules, (search rules, (search rules, (search rules, search rules))))
 
 returns-2 : tie.Need-returns-2
-returns-2 c = search meets-far
+returns-2 c = search meets_far
 
 pub meets-spec : {M : Type 1} → statement M
 meets-spec =

@@ -1,5 +1,5 @@
 use borrow.Author.Rules.{rules}
-use Rattle.opening.proofs.laws.Faces.{read-different, products, noted-held}
+use Rattle.opening.proofs.laws.Faces.{read_different, products, noted_held}
 use Rattle.opening.proofs.faces.note.Statement.{statement}
 use Rattle.opening.proofs.faces.note.Tie as tie
 
@@ -7,13 +7,13 @@ corners-requires : tie.Need-corners-requires
 corners-requires c κs = search rules
 
 holds-requires : tie.Need-holds-requires
-holds-requires c κs = search (read-different, rules)
+holds-requires c κs = search (read_different, rules)
 
 holds-requires-2 : tie.Need-holds-requires-2
-holds-requires-2 c κs = search (read-different, rules)
+holds-requires-2 c κs = search (read_different, rules)
 
 holds-requires-3 : tie.Need-holds-requires-3
-holds-requires-3 c κs = search (read-different, rules)
+holds-requires-3 c κs = search (read_different, rules)
 
 mul-ab : tie.Need-overflow-mul-ab
 mul-ab c = search (products, rules)
@@ -40,7 +40,7 @@ add-t19 : tie.Need-overflow-add-t19
 add-t19 c = search (products, rules)
 
 returns : tie.Need-returns
-returns c = search noted-held
+returns c = search noted_held
 
 pub note-spec : {M : Type 1} → statement M
 note-spec =

@@ -1,5 +1,5 @@
 use borrow.Author.Rules.{rules}
-use Rattle.opening.proofs.laws.Faces.{other-chosen}
+use Rattle.opening.proofs.laws.Faces.{other_chosen}
 use Rattle.opening.proofs.faces.other.Statement.{statement}
 use Rattle.opening.proofs.faces.other.Tie as tie
 
@@ -19,7 +19,7 @@ rarer-requires-2 : tie.Need-rarer-requires-2
 rarer-requires-2 c κs = search rules
 
 returns : tie.Need-returns
-returns c = search other-chosen
+returns c = search other_chosen
 
 pub other-spec : {M : Type 1} → statement M
 other-spec =

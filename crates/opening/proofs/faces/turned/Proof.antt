@@ -1,5 +1,5 @@
 use borrow.Author.Rules.{rules}
-use Rattle.opening.proofs.laws.Faces.{turned-is}
+use Rattle.opening.proofs.laws.Faces.{turned_is}
 use Rattle.opening.proofs.faces.turned.Statement.{statement}
 use Rattle.opening.proofs.faces.turned.Tie as tie
 
@@ -25,7 +25,7 @@ place-requires-4 : tie.Need-place-requires-4
 place-requires-4 c κs = search rules
 
 returns : tie.Need-returns
-returns c = search (turned-is, rules)
+returns c = search (turned_is, rules)
 
 pub turned-spec : {M : Type 1} → statement M
 turned-spec =

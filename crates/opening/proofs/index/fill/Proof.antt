@@ -4,8 +4,8 @@ use Prim.Native.Nat.{◌≤◌, ◌-◌, ◌+◌, ◌*◌}
 use lib.ListN.{length}
 use Rattle.intake.specs.Cells.{cells}
 use Rattle.opening.specs.Scratch.{Filled}
-use Rattle.opening.proofs.laws.Indexing.{filling-start, filling-end}
-use Rattle.opening.proofs.laws.Faces.{place-vertex}
+use Rattle.opening.proofs.laws.Indexing.{filling_start, filling_end}
+use Rattle.opening.proofs.laws.Faces.{place_vertex}
 use borrow.Author.Rules.{rules}
 use Rattle.opening.proofs.index.fill.Statement.{statement}
 use Rattle.opening.proofs.index.fill.Tie as tie
@@ -17,7 +17,7 @@ abbrev decreases-loop : tie.decreases-loop
 decreases-loop elements grid vertices index₀ uses₀ k w q₀ index uses q = 4 - q
 
 loop-holds : tie.Need-loop-init invariant-loop decreases-loop
-loop-holds c = (search rules, (search (filling-start, rules), (refl, refl)))
+loop-holds c = (search rules, (search (filling_start, rules), (refl, refl)))
 
 corners-requires : tie.Need-corners-requires invariant-loop decreases-loop
 corners-requires c κs = search rules
@@ -29,7 +29,7 @@ wide-requires : tie.Need-wide-requires invariant-loop decreases-loop
 wide-requires c κs = search rules
 
 put-requires : tie.Need-put-requires invariant-loop decreases-loop
-put-requires c κs = (search rules, (search rules, (search rules, (search rules, search (place-vertex, rules)))))
+put-requires c κs = (search rules, (search rules, (search rules, (search rules, search (place_vertex, rules)))))
 
 add-q : tie.Need-overflow-add-q invariant-loop decreases-loop
 add-q c = search rules
@@ -47,7 +47,7 @@ same-length-2 : tie.Need-same-length-2 invariant-loop decreases-loop
 same-length-2 c = search rules
 
 returns : tie.Need-returns invariant-loop decreases-loop
-returns c = search (filling-end, rules)
+returns c = search (filling_end, rules)
 
 pub fill_spec : {M : Type 1} → statement M
 fill_spec =

@@ -1,5 +1,5 @@
 use borrow.Author.Rules.{rules}
-use Rattle.opening.proofs.laws.Indexing.{filling-next}
+use Rattle.opening.proofs.laws.Indexing.{filling_next}
 use Rattle.opening.proofs.index.put.Statement.{statement}
 use Rattle.opening.proofs.index.put.Tie as tie
 
@@ -22,7 +22,7 @@ same-length-2 : tie.Need-same-length-2
 same-length-2 c = search rules
 
 returns : tie.Need-returns
-returns c = search (filling-next, rules)
+returns c = search (filling_next, rules)
 
 pub put_spec : {M : Type 1} → statement M
 put_spec =

@@ -1,5 +1,5 @@
 use mathlib.Core.Path.{sym, ◌∙◌}
-use Rattle.opening.proofs.laws.Judging.{settled-lengths, moderate, settled-given}
+use Rattle.opening.proofs.laws.Judging.{settled_lengths, moderate, settled_given}
 use borrow.Author.Rules.{rules}
 use Rattle.opening.proofs.judge.judge.Statement.{statement}
 use Rattle.opening.proofs.judge.judge.Tie as tie
@@ -11,7 +11,7 @@ enum-known-lengths : tie.Need-enum-known-lengths
 enum-known-lengths c = search rules
 
 returns : tie.Need-returns
-returns c = settled-lengths _ _ _ _ _ (sym c.before.before.before.judge-lengths.ensures ∙ c.before.lengths.given.1) (search rules)
+returns c = settled_lengths _ _ _ _ _ (sym c.before.before.before.judge-lengths.ensures ∙ c.before.lengths.given.1) (search rules)
 
 enum_told : tie.Need-enum-told
 enum_told c = search rules
@@ -23,7 +23,7 @@ same_length : tie.Need-same-length
 same_length c = search rules
 
 returns-2 : tie.Need-returns-2
-returns-2 c = search (settled-given, rules)
+returns-2 c = search (settled_given, rules)
 
 pub judge-spec : {M : Type 1} → statement M
 judge-spec =

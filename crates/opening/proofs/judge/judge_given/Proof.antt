@@ -1,4 +1,4 @@
-use Rattle.opening.proofs.laws.Judging.{passing-refused, plain-given, passing-judged}
+use Rattle.opening.proofs.laws.Judging.{passing_refused, plain_given, passing_judged}
 use borrow.Author.Rules.{rules}
 use Rattle.opening.proofs.judge.judge_given.Statement.{statement}
 use Rattle.opening.proofs.judge.judge_given.Tie as tie
@@ -10,13 +10,13 @@ enum-known-numbers : tie.Need-enum-known-numbers
 enum-known-numbers c = search rules
 
 returns : tie.Need-returns
-returns c = passing-refused _ _ c.before.before.before.judge-numbers.ensures c.before.numbers.given.1 (search rules)
+returns c = passing_refused _ _ c.before.before.before.judge-numbers.ensures c.before.numbers.given.1 (search rules)
 
 enum_told : tie.Need-enum-told
 enum_told c = search rules
 
 judge-late-requires : tie.Need-judge-late-requires
-judge-late-requires c κs = (search (plain-given, rules), search rules)
+judge-late-requires c κs = (search (plain_given, rules), search rules)
 
 same_length : tie.Need-same-length
 same_length c = search rules
@@ -25,7 +25,7 @@ same-length-2 : tie.Need-same-length-2
 same-length-2 c = search rules
 
 returns-2 : tie.Need-returns-2
-returns-2 c = search (passing-judged, rules)
+returns-2 c = search (passing_judged, rules)
 
 pub judge-given-spec : {M : Type 1} → statement M
 judge-given-spec =

@@ -3,14 +3,14 @@ use mathlib.Core.Path.{◌∙◌}
 use Prim.Native.Nat.{◌-◌}
 use borrow.Author.Rules.{rules}
 use lib.ListN.{length}
-use Rattle.tables.specs.Layout.{pointWidth, pointCells, pointAt, noFloat}
+use Rattle.tables.specs.Layout.{point_width, point_cells, point_at, no_float}
 use Rattle.tables.proofs.laws.Rows.{points as point-table}
-use Rattle.opening.proofs.laws.Filling.{Filled, length-cleared, fill_start, fill-next, fill_end}
+use Rattle.opening.proofs.laws.Filling.{Filled, length_cleared, fill_start, fill_next, fill_end}
 use Rattle.opening.proofs.store.store_points.Statement.{statement}
 use Rattle.opening.proofs.store.store_points.Tie as tie
 
 abbrev invariant-loop : tie.invariant-loop
-invariant-loop coordinates points₀ n v₀ points v = Filled pointWidth pointCells noFloat (pointAt coordinates) (length points₀) n v points
+invariant-loop coordinates points₀ n v₀ points v = Filled point_width point_cells no_float (point_at coordinates) (length points₀) n v points
 
 abbrev decreases-loop : tie.decreases-loop
 decreases-loop coordinates points₀ n v₀ points v = n - v
@@ -34,10 +34,10 @@ loop-less : tie.Need-loop-smaller invariant-loop decreases-loop
 loop-less c = search rules
 
 loop-again : tie.Need-loop-preserved invariant-loop decreases-loop
-loop-again c = fill-next point-table c.before.before.before.before.before.before.loop.invariant (search rules) c.before.before.before.read.ensures c.before.before.write.ensures
+loop-again c = fill_next point-table c.before.before.before.before.before.before.loop.invariant (search rules) c.before.before.before.read.ensures c.before.before.write.ensures
 
 same_length : tie.Need-same-length invariant-loop decreases-loop
-same_length c = c.before.loop.invariant.length-is ∙ length-cleared _ _ c.before.before.before.before.clear-floats.ensures
+same_length c = c.before.loop.invariant.length_is ∙ length_cleared _ _ c.before.before.before.before.clear-floats.ensures
 
 returns : tie.Need-returns invariant-loop decreases-loop
 returns c = fill_end point-table _ c.before.before.before.before.clear-floats.ensures c.before.loop.invariant (search rules)

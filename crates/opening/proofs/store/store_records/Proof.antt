@@ -3,16 +3,16 @@ use mathlib.Core.Path.{◌∙◌}
 use Prim.Native.Nat.{◌-◌}
 use borrow.Author.Rules.{rules}
 use lib.ListN.{length}
-use Rattle.tables.specs.Layout.{recordWidth, recordCells}
+use Rattle.tables.specs.Layout.{record_width, record_cells}
 use Rattle.tables.proofs.laws.Rows.{records as record-table}
 use Rattle.opening.specs.Opening.{initial}
-use Rattle.opening.specs.Scratch.{colourIn}
-use Rattle.opening.proofs.laws.Filling.{Filled, length-cleared, fill_start, fill-next, fill_end}
+use Rattle.opening.specs.Scratch.{colour_in}
+use Rattle.opening.proofs.laws.Filling.{Filled, length_cleared, fill_start, fill_next, fill_end}
 use Rattle.opening.proofs.store.store_records.Statement.{statement}
 use Rattle.opening.proofs.store.store_records.Tie as tie
 
 abbrev invariant-loop : tie.invariant-loop
-invariant-loop paint vertices records₀ v₀ records v = Filled recordWidth recordCells 0 (λ v. initial (colourIn paint v)) (length records₀) vertices v records
+invariant-loop paint vertices records₀ v₀ records v = Filled record_width record_cells 0 (λ v. initial (colour_in paint v)) (length records₀) vertices v records
 
 abbrev decreases-loop : tie.decreases-loop
 decreases-loop paint vertices records₀ v₀ records v = vertices - v
@@ -36,10 +36,10 @@ loop-less : tie.Need-loop-smaller invariant-loop decreases-loop
 loop-less c = search rules
 
 loop-again : tie.Need-loop-preserved invariant-loop decreases-loop
-loop-again c = fill-next record-table c.before.before.before.before.before.before.loop.invariant (search rules) c.before.before.before.initial-record.ensures c.before.before.write.ensures
+loop-again c = fill_next record-table c.before.before.before.before.before.before.loop.invariant (search rules) c.before.before.before.initial_record.ensures c.before.before.write.ensures
 
 same_length : tie.Need-same-length invariant-loop decreases-loop
-same_length c = c.before.loop.invariant.length-is ∙ length-cleared _ _ c.before.before.before.before.clear.ensures
+same_length c = c.before.loop.invariant.length_is ∙ length_cleared _ _ c.before.before.before.before.clear.ensures
 
 returns : tie.Need-returns invariant-loop decreases-loop
 returns c = fill_end record-table _ c.before.before.before.before.clear.ensures c.before.loop.invariant (search rules)

@@ -3,17 +3,17 @@ use mathlib.Core.Path.{◌∙◌}
 use Prim.Native.Nat.{◌-◌}
 use borrow.Author.Rules.{rules}
 use lib.ListN.{length}
-use Rattle.tables.specs.Layout.{rowWidth, rowCells}
+use Rattle.tables.specs.Layout.{row_width, row_cells}
 use Rattle.tables.proofs.laws.Rows.{rows as row-table}
 use Rattle.intake.specs.Cells.{cells}
-use Rattle.opening.specs.Order.{rootOf}
-use Rattle.opening.specs.Scratch.{colourIn}
-use Rattle.opening.proofs.laws.Filling.{Filled, length-cleared, fill_start, fill-next, fill_end}
+use Rattle.opening.specs.Order.{root_of}
+use Rattle.opening.specs.Scratch.{colour_in}
+use Rattle.opening.proofs.laws.Filling.{Filled, length_cleared, fill_start, fill_next, fill_end}
 use Rattle.opening.proofs.store.store_rows.Statement.{statement}
 use Rattle.opening.proofs.store.store_rows.Tie as tie
 
 abbrev invariant-loop : tie.invariant-loop
-invariant-loop elements grid paint vertices n rows₀ count k₀ rows k = Filled rowWidth rowCells 0 (rootOf n (colourIn paint) (cells elements grid)) (length rows₀) count k rows
+invariant-loop elements grid paint vertices n rows₀ count k₀ rows k = Filled row_width row_cells 0 (root_of n (colour_in paint) (cells elements grid)) (length rows₀) count k rows
 
 abbrev decreases-loop : tie.decreases-loop
 decreases-loop elements grid paint vertices n rows₀ count k₀ rows k = count - k
@@ -37,10 +37,10 @@ loop-less : tie.Need-loop-smaller invariant-loop decreases-loop
 loop-less c = search rules
 
 loop-again : tie.Need-loop-preserved invariant-loop decreases-loop
-loop-again c = fill-next row-table c.before.before.before.before.before.before.loop.invariant (search rules) c.before.before.before.root-row.ensures c.before.before.write.ensures
+loop-again c = fill_next row-table c.before.before.before.before.before.before.loop.invariant (search rules) c.before.before.before.root_row.ensures c.before.before.write.ensures
 
 same_length : tie.Need-same-length invariant-loop decreases-loop
-same_length c = c.before.loop.invariant.length-is ∙ length-cleared _ _ c.before.before.before.before.clear.ensures
+same_length c = c.before.loop.invariant.length_is ∙ length_cleared _ _ c.before.before.before.before.clear.ensures
 
 returns : tie.Need-returns invariant-loop decreases-loop
 returns c = fill_end row-table _ c.before.before.before.before.clear.ensures c.before.loop.invariant (search rules)

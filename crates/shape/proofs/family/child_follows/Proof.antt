@@ -1,7 +1,7 @@
 use mathlib.Core.Path.{refl}
 use native.Mathlib.Omega.{arith}
 use borrow.Author.Rules.{rules}
-use Rattle.shape.proofs.laws.Family.{decides-false, decides-as, granted, refused, follows, child}
+use Rattle.shape.proofs.laws.Family.{decides_false, decides_as, granted, refused, follows, child}
 use Rattle.shape.proofs.family.child_follows.Statement.{statement}
 use Rattle.shape.proofs.family.child_follows.Tie as tie
 
@@ -12,7 +12,7 @@ wide-requires : tie.Need-wide-requires
 wide-requires c κs = search rules
 
 returns : tie.Need-returns
-returns c = decides-false (λ k. omega (arith, (follows _ _ _ c.before.before.before.before.before.requires.1 c.before.before.read.ensures refl refl k).older))
+returns c = decides_false (λ k. omega (arith, (follows _ _ _ c.before.before.before.before.before.requires.1 c.before.before.read.ensures refl refl k).older))
 
 wide-requires-2 : tie.Need-wide-requires-2
 wide-requires-2 c κs = search rules
@@ -26,7 +26,7 @@ returns-2 c =
     let one = two.before.before.before.before in
     let inside = one.before.before.before.requires.1 in
     let up = rw two.before.wide2.ensures at two.read2.ensures in
-    decides-false (λ k. (follows _ _ _ inside one.read.ensures up refl k).split c.if2.true)
+    decides_false (λ k. (follows _ _ _ inside one.read.ensures up refl k).split c.if2.true)
 
 across-requires : tie.Need-across-requires
 across-requires c κs = search rules
@@ -48,7 +48,7 @@ returns-3 c =
     let up = rw two.before.wide2.ensures at two.read2.ensures in
     let tag = c.before.before.before.before.across.ensures in
     let same = rw (c.before.before.before.wide3.ensures, c.before.before.edge.ensures) at c.before.records-edge.ensures in
-    decides-false (λ k. refused same c.if3.true (follows _ _ _ inside one.read.ensures up tag k).middle)
+    decides_false (λ k. refused same c.if3.true (follows _ _ _ inside one.read.ensures up tag k).middle)
 
 returns-4 : tie.Need-returns-4
 returns-4 c =
@@ -57,12 +57,12 @@ returns-4 c =
     let inside = one.before.before.before.requires.1 in
     let up = rw two.before.wide2.ensures at two.read2.ensures in
     let tag = c.before.before.before.before.before.before.across.ensures in
-    decides-false (λ k. omega (arith, (follows _ _ _ inside one.read.ensures up tag k).shallow))
+    decides_false (λ k. omega (arith, (follows _ _ _ inside one.read.ensures up tag k).shallow))
 
 is-child-requires : tie.Need-is-child-requires
 is-child-requires c κs =
     let start = c.before.before.before.before.before.before.before.before.before.before.before.before.before.before.before.before in
-    omega (arith, start.requires.0.few-rows, start.requires.1)
+    omega (arith, start.requires.0.few_rows, start.requires.1)
 
 returns-5 : tie.Need-returns-5
 returns-5 c =
@@ -73,7 +73,7 @@ returns-5 c =
     let tag = c.before.before.before.before.before.before.before.across.ensures in
     let found = c.before.before.before.before in
     let same = rw (found.before.before.wide3.ensures, found.before.edge.ensures) at found.records-edge.ensures in
-    decides-as c.is-child.ensures
+    decides_as c.is-child.ensures
     (λ s.
     child _ _ _ inside one.read.ensures up tag
     (record { older = omega arith; split = found.before.before.before.before.if2.false; middle = granted same c.before.before.before.if3.false; shallow = c.before.if4.false; sided = s }))

@@ -1,7 +1,7 @@
 use mathlib.Core.Path.{refl, sym, ◌∙◌}
 use native.Mathlib.Omega.{arith}
 use borrow.Author.Rules.{rules}
-use Rattle.shape.proofs.laws.Family.{decides-false, decides-test, pair_of, parent_of}
+use Rattle.shape.proofs.laws.Family.{decides_false, decides_test, pair_of, parent_of}
 use Rattle.shape.proofs.family.parent_follows.Statement.{statement}
 use Rattle.shape.proofs.family.parent_follows.Tie as tie
 
@@ -14,12 +14,12 @@ wide-requires c κs = search rules
 returns : tie.Need-returns
 returns c =
     let first = c.before in
-    decides-false (λ k. omega (arith, (pair_of _ _ _ first.before.before.before.requires.1 first.before.read.ensures first.wide.ensures refl refl k).later))
+    decides_false (λ k. omega (arith, (pair_of _ _ _ first.before.before.before.requires.1 first.before.read.ensures first.wide.ensures refl refl k).later))
 
 returns-2 : tie.Need-returns-2
 returns-2 c =
     let first = c.before.before in
-    decides-false (λ k. omega (arith, (pair_of _ _ _ first.before.before.before.requires.1 first.before.read.ensures first.wide.ensures refl refl k).past))
+    decides_false (λ k. omega (arith, (pair_of _ _ _ first.before.before.before.requires.1 first.before.read.ensures first.wide.ensures refl refl k).past))
 
 add-if3 : tie.Need-overflow-add-if3
 add-if3 c = search rules
@@ -27,7 +27,7 @@ add-if3 c = search rules
 returns-3 : tie.Need-returns-3
 returns-3 c =
     let first = c.before.before.before.before in
-    decides-false (λ k. omega (arith, (pair_of _ _ _ first.before.before.before.requires.1 first.before.read.ensures first.wide.ensures refl refl k).both))
+    decides_false (λ k. omega (arith, (pair_of _ _ _ first.before.before.before.requires.1 first.before.read.ensures first.wide.ensures refl refl k).both))
 
 read-requires-2 : tie.Need-read-requires-2
 read-requires-2 c κs = search rules
@@ -39,7 +39,7 @@ returns-4 : tie.Need-returns-4
 returns-4 c =
     let first = c.before.before.before.before.before.before.before in
     let pair = pair_of _ _ _ first.before.before.before.requires.1 first.before.read.ensures first.wide.ensures c.before.before.read2.ensures refl in
-    decides-false (λ k. c.if4.true (c.before.wide2.ensures ∙ (pair k).first))
+    decides_false (λ k. c.if4.true (c.before.wide2.ensures ∙ (pair k).first))
 
 add_read : tie.Need-overflow-add-read
 add_read c = search rules
@@ -58,7 +58,7 @@ returns-5 c =
     let a = c.before.before.before.before.read2.ensures in
     let b = c.before.read3.ensures in
     let its = sym c.before.before.before.wide2.ensures ∙ c.before.before.if4.false in
-    decides-test _ _
+    decides_test _ _
     (λ e.
     parent_of _ _ _ inside held first.wide.ensures a b
     (record { later = omega arith; past = omega arith; both = omega arith; first = its; second = sym c.wide3.ensures ∙ e }))

@@ -4,7 +4,7 @@ use Prim.Native.Nat.{◌-◌, zero-le}
 use native.Mathlib.Omega.{arith}
 use borrow.Author.Rules.{rules}
 use Rattle.sound.specs.Check.{bare}
-use Rattle.shape.proofs.laws.Family.{decides-true, decides-false, granted, refused, mesh-rows, Asked, asked-start, asked-on, asked-stop, asked-end, Passes, passes-leaf, passes-not}
+use Rattle.shape.proofs.laws.Family.{decides_true, decides_false, granted, refused, mesh_rows, Asked, asked_start, asked_on, asked_stop, asked_end, Passes, passes_leaf, passes_not}
 use Rattle.shape.proofs.family.parents_follow.Statement.{statement}
 use Rattle.shape.proofs.family.parents_follow.Tie as tie
 
@@ -15,7 +15,7 @@ abbrev decreases-loop : tie.decreases-loop
 decreases-loop rows c t n q₀ q = n - q
 
 loop-holds : tie.Need-loop-init invariant-loop decreases-loop
-loop-holds c = asked-start _ 0
+loop-holds c = asked_start _ 0
 
 read-requires : tie.Need-read-requires invariant-loop decreases-loop
 read-requires c κs = search rules
@@ -26,8 +26,8 @@ parent-follows-requires c κs = (c.before.before.before.before.before.before.req
 returns : tie.Need-returns invariant-loop decreases-loop
 returns c =
     let split = c.before.before in
-    let none = passes-not _ _ _ (omega arith) split.before.before.read.ensures split.if1.true (refused c.before.parent-follows.ensures c.if2.true) in
-    decides-false (λ all. asked-stop split.before.before.before.before.loop.invariant (rw (mesh-rows _ _ _) (omega arith)) none (λ k l h. all k h))
+    let none = passes_not _ _ _ (omega arith) split.before.before.read.ensures split.if1.true (refused c.before.parent-follows.ensures c.if2.true) in
+    decides_false (λ all. asked_stop split.before.before.before.before.loop.invariant (rw (mesh_rows _ _ _) (omega arith)) none (λ k l h. all k h))
 
 add-q : tie.Need-overflow-add-q invariant-loop decreases-loop
 add-q c = search rules
@@ -37,11 +37,11 @@ loop-less c = search rules
 
 loop-again : tie.Need-loop-preserved invariant-loop decreases-loop
 loop-again c =
-    asked-on c.before.before.before.before.loop.invariant
-    (⊎_elim (λ w split. granted w.1.ensures w.2.left) (λ w. passes-leaf _ _ _ (omega arith) c.before.before.read.ensures w.left) c.if1.branch)
+    asked_on c.before.before.before.before.loop.invariant
+    (⊎_elim (λ w split. granted w.1.ensures w.2.left) (λ w. passes_leaf _ _ _ (omega arith) c.before.before.read.ensures w.left) c.if1.branch)
 
 returns-2 : tie.Need-returns-2 invariant-loop decreases-loop
-returns-2 c = decides-true (λ k h. asked-end c.before.loop.invariant (rw (mesh-rows _ _ _) (omega arith)) k zero-le h)
+returns-2 c = decides_true (λ k h. asked_end c.before.loop.invariant (rw (mesh_rows _ _ _) (omega arith)) k zero-le h)
 
 pub parents-follow-spec : {M : Type 1} → statement M
 parents-follow-spec =

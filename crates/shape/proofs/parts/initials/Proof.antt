@@ -1,13 +1,13 @@
 use Prim.Native.Nat.{◌-◌, ◌≤◌, zero-le}
 use mathlib.Core.Path.{◌≡◌}
 use borrow.Author.Rules.{rules}
-use Rattle.tables.specs.Layout.{recordAt}
-use Rattle.sound.proofs.laws.Deciding.{refused, granted, Swept, swept_none, swept-on}
+use Rattle.tables.specs.Layout.{record_at}
+use Rattle.sound.proofs.laws.Deciding.{refused, granted, Swept, swept_none, swept_on}
 use Rattle.shape.proofs.parts.initials.Statement.{statement}
 use Rattle.shape.proofs.parts.initials.Tie as tie
 
 abbrev invariant-loop : tie.invariant-loop
-invariant-loop records n i₀ i = (i ≤ n) × Swept (λ v. (recordAt records v).second ≡ 4294967295) 0 i
+invariant-loop records n i₀ i = (i ≤ n) × Swept (λ v. (record_at records v).second ≡ 4294967295) 0 i
 
 abbrev decreases-loop : tie.decreases-loop
 decreases-loop records n i₀ i = n - i
@@ -32,7 +32,7 @@ loop-less : tie.Need-loop-smaller invariant-loop decreases-loop
 loop-less c = search rules
 
 loop-again : tie.Need-loop-preserved invariant-loop decreases-loop
-loop-again c = (search rules, swept-on c.before.before.before.loop.invariant.1 (granted c.before.is-initial.ensures c.if1.false))
+loop-again c = (search rules, swept_on c.before.before.before.loop.invariant.1 (granted c.before.is-initial.ensures c.if1.false))
 
 returns-2 : tie.Need-returns-2 invariant-loop decreases-loop
 returns-2 c = record {

@@ -2,7 +2,7 @@ use Prim.Native.Nat.{◌-◌, ◌≤◌, zero-le}
 use mathlib.Core.Path.{◌≡◌}
 use borrow.Author.Rules.{rules}
 use Rattle.tables.specs.Layout.{row_at}
-use Rattle.sound.proofs.laws.Deciding.{refused, granted, Swept, swept_none, swept-on}
+use Rattle.sound.proofs.laws.Deciding.{refused, granted, Swept, swept_none, swept_on}
 use Rattle.shape.proofs.parts.roots.Statement.{statement}
 use Rattle.shape.proofs.parts.roots.Tie as tie
 
@@ -22,7 +22,7 @@ returns : tie.Need-returns invariant-loop decreases-loop
 returns c = record {
   within = search rules;
   before = λ k h. c.before.before.before.loop.invariant.1.held k zero-le h;
-  ends = λ h. refused c.before.is-root.ensures c.if1.true;
+  ends = λ h. refused c.before.is_root.ensures c.if1.true;
 }
 
 add-t : tie.Need-overflow-add-t invariant-loop decreases-loop
@@ -32,7 +32,7 @@ loop-less : tie.Need-loop-smaller invariant-loop decreases-loop
 loop-less c = search rules
 
 loop-again : tie.Need-loop-preserved invariant-loop decreases-loop
-loop-again c = (search rules, swept-on c.before.before.before.loop.invariant.1 (granted c.before.is-root.ensures c.if1.false))
+loop-again c = (search rules, swept_on c.before.before.before.loop.invariant.1 (granted c.before.is_root.ensures c.if1.false))
 
 returns-2 : tie.Need-returns-2 invariant-loop decreases-loop
 returns-2 c = record {

@@ -2,8 +2,8 @@ use Prim.Native.Nat.{◌-◌}
 use mathlib.Core.Path.{◌≡◌, refl}
 use lib.ListN.{length, get_or}
 use borrow.Author.Rules.{rules}
-use Rattle.sound.proofs.laws.Deciding.{decides-equal, decides-copies}
-use Rattle.shape.proofs.laws.Zero.{Sifted, sifted-none, sifted-on, sifted-all}
+use Rattle.sound.proofs.laws.Deciding.{decides_equal, decides_copies}
+use Rattle.shape.proofs.laws.Zero.{Sifted, sifted_none, sifted_on, sifted_all}
 use Rattle.shape.proofs.unused.numbers_zero.Statement.{statement}
 use Rattle.shape.proofs.unused.numbers_zero.Tie as tie
 
@@ -14,7 +14,7 @@ abbrev decreases-loop : tie.decreases-loop
 decreases-loop table from n clean₀ i₀ clean i = n - i
 
 loop-holds : tie.Need-loop-init invariant-loop decreases-loop
-loop-holds c = sifted-none (search rules)
+loop-holds c = sifted_none (search rules)
 
 mul-both : tie.Need-overflow-mul-both invariant-loop decreases-loop
 mul-both c = search rules
@@ -32,10 +32,10 @@ loop-less : tie.Need-loop-smaller invariant-loop decreases-loop
 loop-less c = search rules
 
 loop-again : tie.Need-loop-preserved invariant-loop decreases-loop
-loop-again c = sifted-on c.before.before.before.loop.invariant (search rules) (decides-equal 0 refl) c.both.ensures
+loop-again c = sifted_on c.before.before.before.loop.invariant (search rules) (decides_equal 0 refl) c.both.ensures
 
 returns : tie.Need-returns invariant-loop decreases-loop
-returns c = decides-copies 0 0 _ _ (sifted-all c.before.loop.invariant (search rules))
+returns c = decides_copies 0 0 _ _ (sifted_all c.before.loop.invariant (search rules))
 
 pub numbers-zero-spec : {M : Type 1} → statement M
 numbers-zero-spec =

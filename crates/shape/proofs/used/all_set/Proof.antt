@@ -2,7 +2,7 @@ use borrow.Author.Rules.{rules}
 use mathlib.Core.Path.{◌≡◌}
 use Prim.Native.Nat.{ℕ, ◌-◌}
 use lib.ListN.{get_or}
-use Rattle.sound.proofs.laws.Deciding.{Swept, swept_none, swept-on, swept_all, swept-failed}
+use Rattle.sound.proofs.laws.Deciding.{Swept, swept_none, swept_on, swept_all, swept_failed}
 use Rattle.shape.proofs.used.all_set.Statement.{statement}
 use Rattle.shape.proofs.used.all_set.Tie as tie
 
@@ -22,7 +22,7 @@ shared-slice-read-if1 : tie.Need-shared-slice-read-if1 invariant-loop decreases-
 shared-slice-read-if1 c = search rules
 
 returns : tie.Need-returns invariant-loop decreases-loop
-returns c = swept-failed c.before.before.before.loop.invariant c.before.before.loop-test.true (λ d. d c.if1.true)
+returns c = swept_failed c.before.before.before.loop.invariant c.before.before.loop-test.true (λ d. d c.if1.true)
 
 add-v : tie.Need-overflow-add-v invariant-loop decreases-loop
 add-v c = search rules
@@ -31,7 +31,7 @@ loop-less : tie.Need-loop-smaller invariant-loop decreases-loop
 loop-less c = search rules
 
 loop-again : tie.Need-loop-preserved invariant-loop decreases-loop
-loop-again c = swept-on c.before.before.before.loop.invariant c.if1.false
+loop-again c = swept_on c.before.before.before.loop.invariant c.if1.false
 
 returns-2 : tie.Need-returns-2 invariant-loop decreases-loop
 returns-2 c = swept_all c.before.loop.invariant c.loop-test.false

@@ -1,4 +1,4 @@
-use Rattle.shape.proofs.laws.Used.{middle-is}
+use Rattle.shape.proofs.laws.Used.{middle_is}
 use borrow.Author.Rules.{rules}
 use Rattle.shape.proofs.used.middle.Statement.{statement}
 use Rattle.shape.proofs.used.middle.Tie as tie
@@ -19,7 +19,7 @@ wide-requires-2 : tie.Need-wide-requires-2
 wide-requires-2 c κs = search rules
 
 returns : tie.Need-returns
-returns c = middle-is _ _ c.before.before.before.before.read.ensures c.before.before.before.wide.ensures c.before.before.read2.ensures c.before.across.ensures c.wide2.ensures
+returns c = middle_is _ _ c.before.before.before.before.read.ensures c.before.before.before.wide.ensures c.before.before.read2.ensures c.before.across.ensures c.wide2.ensures
 
 pub middle-spec : {M : Type 1} → statement M
 middle-spec =

@@ -2,7 +2,7 @@
 use Prim.Native.Nat.{◌-◌}
 use borrow.Author.Rules.{rules}
 use Rattle.soundness.specs.Check.{Whole}
-use Rattle.sound.proofs.laws.Deciding.{all-places, refused, granted, Swept, swept_none, swept-on, swept_all, swept-failed}
+use Rattle.sound.proofs.laws.Deciding.{all_places, refused, granted, Swept, swept_none, swept_on, swept_all, swept_failed}
 use Rattle.soundness.proofs.conform.conforms.Statement.{statement}
 use Rattle.soundness.proofs.conform.conforms.Tie as tie
 
@@ -19,7 +19,7 @@ is-whole-requires : tie.Need-is-whole-requires invariant-loop decreases-loop
 is-whole-requires c κs = c.before.before.before.before.before.requires
 
 returns : tie.Need-returns invariant-loop decreases-loop
-returns c = all-places (swept-failed c.before.before.before.loop.invariant c.before.before.loop-test.true (refused c.before.is_whole.ensures c.if1.true))
+returns c = all_places (swept_failed c.before.before.before.loop.invariant c.before.before.loop-test.true (refused c.before.is_whole.ensures c.if1.true))
 
 add-q : tie.Need-overflow-add-q invariant-loop decreases-loop
 add-q c = search rules
@@ -28,10 +28,10 @@ loop-less : tie.Need-loop-smaller invariant-loop decreases-loop
 loop-less c = search rules
 
 loop-again : tie.Need-loop-preserved invariant-loop decreases-loop
-loop-again c = swept-on c.before.before.before.loop.invariant (granted c.before.is_whole.ensures c.if1.false)
+loop-again c = swept_on c.before.before.before.loop.invariant (granted c.before.is_whole.ensures c.if1.false)
 
 returns-2 : tie.Need-returns-2 invariant-loop decreases-loop
-returns-2 c = all-places (swept_all c.before.loop.invariant c.loop-test.false)
+returns-2 c = all_places (swept_all c.before.loop.invariant c.loop-test.false)
 
 pub conforms-spec : {M : Type 1} → statement M
 conforms-spec =

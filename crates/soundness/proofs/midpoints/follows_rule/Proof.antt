@@ -1,4 +1,4 @@
-use Rattle.soundness.proofs.laws.Midpoints.{unordered, too-young, ruled}
+use Rattle.soundness.proofs.laws.Midpoints.{unordered, too_young, ruled}
 use borrow.Author.Rules.{rules}
 use Rattle.soundness.proofs.midpoints.follows_rule.Statement.{statement}
 use Rattle.soundness.proofs.midpoints.follows_rule.Tie as tie
@@ -13,7 +13,7 @@ wide-requires : tie.Need-wide-requires
 wide-requires c κs = search rules
 
 returns-2 : tie.Need-returns-2
-returns-2 c = too-young c.before.before.before.before.read.ensures c.before.wide.ensures c.if2.true
+returns-2 c = too_young c.before.before.before.before.read.ensures c.before.wide.ensures c.if2.true
 
 wide-requires-2 : tie.Need-wide-requires-2
 wide-requires-2 c κs = search rules

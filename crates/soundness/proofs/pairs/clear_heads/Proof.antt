@@ -1,4 +1,4 @@
-use Rattle.soundness.proofs.laws.Steps.{heads-fresh}
+use Rattle.soundness.proofs.laws.Steps.{heads_fresh}
 use borrow.Author.Rules.{rules}
 use Rattle.soundness.proofs.pairs.clear_heads.Statement.{statement}
 use Rattle.soundness.proofs.pairs.clear_heads.Tie as tie
@@ -22,7 +22,7 @@ same_length : tie.Need-same-length
 same_length c = search rules
 
 returns : tie.Need-returns
-returns c = heads-fresh _ c.before.before.before.before.before.before.args.scratch.now c.before.before.before.before.heads.ensures c.before.before.clear.ensures c.before.before.before.before.before.before.requires
+returns c = heads_fresh _ c.before.before.before.before.before.before.args.scratch.now c.before.before.before.before.heads.ensures c.before.before.clear.ensures c.before.before.before.before.before.before.requires
 
 pub clear-heads-spec : {M : Type 1} → statement M
 clear-heads-spec =

@@ -1,7 +1,7 @@
 -- `soundness::pairs::enter` meets its contract. The loop's invariant: the pairs of the vertices below v are in the index, and none stands twice. Assumes nothing.
 use Prim.Native.Nat.{◌-◌}
 use borrow.Author.Rules.{rules}
-use Rattle.soundness.proofs.laws.Pairs.{Entering, entering-none, entering-run, entering-on, entered-twice, entered_all}
+use Rattle.soundness.proofs.laws.Pairs.{Entering, entering_none, entering_run, entering_on, entered_twice, entered_all}
 use Rattle.soundness.proofs.pairs.enter.Statement.{statement}
 use Rattle.soundness.proofs.pairs.enter.Tie as tie
 
@@ -12,19 +12,19 @@ abbrev decreases-loop : tie.decreases-loop
 decreases-loop records small i n scratch₀ v₀ scratch v = n - v
 
 loop-holds : tie.Need-loop-init invariant-loop decreases-loop
-loop-holds c = search (entering-none, rules)
+loop-holds c = search (entering_none, rules)
 
 read-requires : tie.Need-read-requires invariant-loop decreases-loop
 read-requires c κs = search rules
 
 untaken-requires : tie.Need-untaken-requires invariant-loop decreases-loop
-untaken-requires c κs = search (entering-run, rules)
+untaken-requires c κs = search (entering_run, rules)
 
 same_length : tie.Need-same-length invariant-loop decreases-loop
 same_length c = search rules
 
 returns : tie.Need-returns invariant-loop decreases-loop
-returns c = search (entered-twice, rules)
+returns c = search (entered_twice, rules)
 
 sub-push-pair : tie.Need-overflow-sub-push-pair invariant-loop decreases-loop
 sub-push-pair c = search rules
@@ -39,7 +39,7 @@ loop-less : tie.Need-loop-smaller invariant-loop decreases-loop
 loop-less c = search rules
 
 loop-again : tie.Need-loop-preserved invariant-loop decreases-loop
-loop-again c = search (entering-on, rules)
+loop-again c = search (entering_on, rules)
 
 same-length-2 : tie.Need-same-length-2 invariant-loop decreases-loop
 same-length-2 c = search rules

@@ -1,4 +1,4 @@
-use Rattle.soundness.proofs.laws.Pairs.{pushed-pair}
+use Rattle.soundness.proofs.laws.Pairs.{pushed_pair}
 use borrow.Author.Rules.{rules}
 use Rattle.soundness.proofs.pairs.push_pair.Statement.{statement}
 use Rattle.soundness.proofs.pairs.push_pair.Tie as tie
@@ -16,7 +16,7 @@ same_length : tie.Need-same-length
 same_length c = search rules
 
 returns : tie.Need-returns
-returns c = search (pushed-pair, rules)
+returns c = search (pushed_pair, rules)
 
 pub push-pair-spec : {M : Type 1} → statement M
 push-pair-spec = tie.close (tie.spec heads-requires key-requires push-requires same_length returns)

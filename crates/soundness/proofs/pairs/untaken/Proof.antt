@@ -1,7 +1,7 @@
 -- `soundness::pairs::untaken` meets its contract. The loop's invariant: no place of the key from where the walk is on is of a vertex with these parents. Assumes nothing.
 use borrow.Author.Rules.{rules}
-use Rattle.soundness.proofs.laws.Chains.{walked-head}
-use Rattle.soundness.proofs.laws.Pairs.{Seeking, key-low, seek-less, seek-on, seek-met, seek-done}
+use Rattle.soundness.proofs.laws.Chains.{walked_head}
+use Rattle.soundness.proofs.laws.Pairs.{Seeking, key_low, seek_less, seek_on, seek_met, seek_done}
 use Rattle.soundness.proofs.pairs.untaken.Statement.{statement}
 use Rattle.soundness.proofs.pairs.untaken.Tie as tie
 
@@ -27,7 +27,7 @@ wide-requires : tie.Need-wide-requires invariant-loop decreases-loop
 wide-requires c κs = search rules
 
 loop-holds : tie.Need-loop-init invariant-loop decreases-loop
-loop-holds c = search (walked-head, key-low, rules)
+loop-holds c = search (walked_head, key_low, rules)
 
 sub-s : tie.Need-overflow-sub-s invariant-loop decreases-loop
 sub-s c = search rules
@@ -39,7 +39,7 @@ has-requires : tie.Need-has-requires invariant-loop decreases-loop
 has-requires c κs = search rules
 
 returns : tie.Need-returns invariant-loop decreases-loop
-returns c = search (seek-met, rules)
+returns c = search (seek_met, rules)
 
 add_wide : tie.Need-overflow-add-wide invariant-loop decreases-loop
 add_wide c = search rules
@@ -54,13 +54,13 @@ wide-requires-2 : tie.Need-wide-requires-2 invariant-loop decreases-loop
 wide-requires-2 c κs = search rules
 
 loop-less : tie.Need-loop-smaller invariant-loop decreases-loop
-loop-less c = search (seek-less, rules)
+loop-less c = search (seek_less, rules)
 
 loop-again : tie.Need-loop-preserved invariant-loop decreases-loop
-loop-again c = search (seek-on, rules)
+loop-again c = search (seek_on, rules)
 
 returns-2 : tie.Need-returns-2 invariant-loop decreases-loop
-returns-2 c = search (seek-done, rules)
+returns-2 c = search (seek_done, rules)
 
 pub untaken-spec : {M : Type 1} → statement M
 untaken-spec =

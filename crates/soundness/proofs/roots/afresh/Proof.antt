@@ -1,11 +1,11 @@
 -- `soundness::roots::afresh`: the parts are the initial points and the front of the scratch table. Assumes nothing.
-use Rattle.soundness.proofs.laws.Roots.{points-within, points-few, decides-afresh}
+use Rattle.soundness.proofs.laws.Roots.{points_within, points_few, decides_afresh}
 use borrow.Author.Rules.{rules}
 use Rattle.soundness.proofs.roots.afresh.Statement.{statement}
 use Rattle.soundness.proofs.roots.afresh.Tie as tie
 
 mul-last : tie.Need-overflow-mul-last
-mul-last c = search (points-few c.before.before.before.before.requires.0 c.before.before.before.before.requires.1.0, rules)
+mul-last c = search (points_few c.before.before.before.before.requires.0 c.before.before.before.before.requires.1.0, rules)
 
 mul-used : tie.Need-overflow-mul-used
 mul-used c = search rules
@@ -20,7 +20,7 @@ part-agrees-start : tie.Need-slice-bounds-agrees-start
 part-agrees-start c = search rules
 
 part-agrees-end : tie.Need-slice-bounds-agrees-end
-part-agrees-end c = points-within c.before.before.before.before.requires.0 c.before.before.before.before.requires.1.0
+part-agrees-end c = points_within c.before.before.before.before.requires.0 c.before.before.before.before.requires.1.0
 
 sub-agrees-2 : tie.Need-overflow-sub-agrees-2
 sub-agrees-2 c = search rules
@@ -38,7 +38,7 @@ same_length : tie.Need-same-length
 same_length c = search rules
 
 returns : tie.Need-returns
-returns c = decides-afresh c.before.before.before.before.before.before.before.before.before.requires.0 c.before.before.before.before.before.before.before.before.before.requires.1.0 c.before.before.before.before.before.before.before.before.before.args.scratch.now c.before.before.before.before.before.before.before.before.before.requires.1.1 c.before.before.agrees.ensures.0
+returns c = decides_afresh c.before.before.before.before.before.before.before.before.before.requires.0 c.before.before.before.before.before.before.before.before.before.requires.1.0 c.before.before.before.before.before.before.before.before.before.args.scratch.now c.before.before.before.before.before.before.before.before.before.requires.1.1 c.before.before.agrees.ensures.0
 
 pub afresh-spec : {M : Type 1} → statement M
 afresh-spec =

@@ -1,10 +1,10 @@
-use Rattle.soundness.proofs.laws.Steps.{judging, pairs-enough, roots-enough}
+use Rattle.soundness.proofs.laws.Steps.{judging, pairs_enough, roots_enough}
 use borrow.Author.Rules.{rules}
 use Rattle.soundness.proofs.steps.judge.Statement.{statement}
 use Rattle.soundness.proofs.steps.judge.Tie as tie
 
 afresh-requires : tie.Need-afresh-requires
-afresh-requires c κs = (search rules, (search rules, search (roots-enough, rules)))
+afresh-requires c κs = (search rules, (search rules, search (roots_enough, rules)))
 
 same_length : tie.Need-same-length
 same_length c = search rules
@@ -28,7 +28,7 @@ returns-3 : tie.Need-returns-3
 returns-3 c = search (judging, rules)
 
 pairs-in-requires : tie.Need-pairs-in-requires
-pairs-in-requires c κs = (search (judging, rules), (search (judging, rules), search (pairs-enough, rules)))
+pairs-in-requires c κs = (search (judging, rules), (search (judging, rules), search (pairs_enough, rules)))
 
 same-length-4 : tie.Need-same-length-4
 same-length-4 c = search rules

@@ -1,4 +1,4 @@
-use Rattle.split.proofs.laws.Tags.{tag_one, tag-two, tag-three}
+use Rattle.split.proofs.laws.Tags.{tag_one, tag_two, tag_three}
 use Rattle.split.proofs.row.across.Statement.{statement}
 use Rattle.split.proofs.row.across.Tie as tie
 
@@ -6,10 +6,10 @@ returns : tie.Need-returns
 returns c = rw (tag_one c.if1.true)
 
 returns-2 : tie.Need-returns-2
-returns-2 c = rw (tag-two c.if2.true)
+returns-2 c = rw (tag_two c.if2.true)
 
 returns-3 : tie.Need-returns-3
-returns-3 c = rw (tag-three c.before.if1.false c.if2.false)
+returns-3 c = rw (tag_three c.before.if1.false c.if2.false)
 
 pub across-spec : {M : Type 1} → statement M
 across-spec = tie.close (tie.spec returns returns-2 returns-3)

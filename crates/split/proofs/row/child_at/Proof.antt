@@ -1,5 +1,5 @@
 use Rattle.split.specs.Row.{below}
-use Rattle.split.proofs.laws.SplitTable.{after-number}
+use Rattle.split.proofs.laws.SplitTable.{after_number}
 use borrow.Author.Rules.{rules}
 use Rattle.split.proofs.row.child_at.Statement.{statement}
 use Rattle.split.proofs.row.child_at.Tie as tie
@@ -15,7 +15,7 @@ next-depth-requires c κs = search rules
 
 returns : tie.Need-returns
 unfolding below
-returns c = cc (after-number _ _ c.before.before.tag_of.ensures)
+returns c = cc (after_number _ _ c.before.before.tag_of.ensures)
 
 pub child-at-spec : {M : Type 1} → statement M
 child-at-spec = tie.close (tie.spec tag-of-requires next-tag-requires next-depth-requires returns)

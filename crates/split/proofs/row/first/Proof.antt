@@ -1,5 +1,5 @@
 use Rattle.split.specs.Split.{left}
-use Rattle.split.proofs.laws.Rows.{by-places}
+use Rattle.split.proofs.laws.Rows.{by_places}
 use borrow.Author.Rules.{rules}
 use Rattle.split.proofs.row.first.Statement.{statement}
 use Rattle.split.proofs.row.first.Tie as tie
@@ -23,7 +23,7 @@ child-at-requires : tie.Need-child-at-requires
 child-at-requires c κs = search rules
 
 returns : tie.Need-returns
-returns c = search (by-places left)
+returns c = search (by_places left)
 
 pub first_spec : {M : Type 1} → statement M
 first_spec = tie.close (tie.spec tag-of-requires by-tag-requires by-tag-requires-2 by-tag-requires-3 by-tag-requires-4 child-at-requires returns)

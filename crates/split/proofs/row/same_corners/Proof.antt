@@ -1,22 +1,22 @@
-use Rattle.split.specs.Row.{sameCorners}
+use Rattle.split.specs.Row.{same_corners}
 use Rattle.split.proofs.laws.Tests.{agreeing}
 use Rattle.split.proofs.row.same_corners.Statement.{statement}
 use Rattle.split.proofs.row.same_corners.Tie as tie
 
 returns : tie.Need-returns
-unfolding sameCorners
+unfolding same_corners
 returns c = search agreeing
 
 returns-2 : tie.Need-returns-2
-unfolding sameCorners
+unfolding same_corners
 returns-2 c = search agreeing
 
 returns-3 : tie.Need-returns-3
-unfolding sameCorners
+unfolding same_corners
 returns-3 c = search agreeing
 
 returns-4 : tie.Need-returns-4
-unfolding sameCorners
+unfolding same_corners
 returns-4 c = search agreeing
 
 pub same-corners-spec : {M : Type 1} → statement M

@@ -1,5 +1,5 @@
 use Rattle.split.specs.Split.{right}
-use Rattle.split.proofs.laws.Rows.{by-places}
+use Rattle.split.proofs.laws.Rows.{by_places}
 use borrow.Author.Rules.{rules}
 use Rattle.split.proofs.row.second.Statement.{statement}
 use Rattle.split.proofs.row.second.Tie as tie
@@ -23,7 +23,7 @@ child-at-requires : tie.Need-child-at-requires
 child-at-requires c κs = search rules
 
 returns : tie.Need-returns
-returns c = search (by-places right)
+returns c = search (by_places right)
 
 pub second_spec : {M : Type 1} → statement M
 second_spec = tie.close (tie.spec tag-of-requires by-tag-requires by-tag-requires-2 by-tag-requires-3 by-tag-requires-4 child-at-requires returns)

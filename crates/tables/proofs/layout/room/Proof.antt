@@ -1,4 +1,4 @@
-use Rattle.tables.specs.Layout.{roomOf}
+use Rattle.tables.specs.Layout.{room_of}
 use borrow.Author.Rules.{rules}
 use Rattle.tables.proofs.layout.room.Statement.{statement}
 use Rattle.tables.proofs.layout.room.Tie as tie
@@ -13,7 +13,7 @@ least-requires-3 : tie.Need-least-requires-3
 least-requires-3 c κs = search rules
 
 returns : tie.Need-returns
-unfolding roomOf
+unfolding room_of
 returns c = cc
 
 pub room-spec : {M : Type 1} → statement M

@@ -1,7 +1,7 @@
 use mathlib.Core.Path.{sym}
 use native.Mathlib.Omega.{arith}
 use lib.ListN.{length-set}
-use Rattle.tables.proofs.laws.Table.{put-stored, put-past}
+use Rattle.tables.proofs.laws.Table.{put_stored, put_past}
 use Rattle.tables.proofs.laws.Rows.{points}
 use borrow.Author.Rules.{rules}
 use Rattle.tables.proofs.point.write.Statement.{statement}
@@ -38,10 +38,10 @@ same_length : tie.Need-same-length
 same_length c = search rules
 
 returns : tie.Need-returns
-returns c = put-stored points _ _ _ c.if1.true
+returns c = put_stored points _ _ _ c.if1.true
 
 returns-2 : tie.Need-returns-2
-returns-2 c = sym (put-past points _ _ _ c.if1.false)
+returns-2 c = sym (put_past points _ _ _ c.if1.false)
 
 pub write_spec : {M : Type 1} → statement M
 write_spec =

@@ -1,5 +1,5 @@
 use mathlib.Core.Path.{sym}
-use Rattle.tables.proofs.laws.Table.{at_held, at-past}
+use Rattle.tables.proofs.laws.Table.{at_held, at_past}
 use Rattle.tables.proofs.laws.Rows.{records}
 use borrow.Author.Rules.{rules}
 use Rattle.tables.proofs.record.read.Statement.{statement}
@@ -27,7 +27,7 @@ returns : tie.Need-returns
 returns c = sym (at_held records _ _ c.before.before.if1.true)
 
 returns-2 : tie.Need-returns-2
-returns-2 c = sym (at-past records _ _ c.if1.false)
+returns-2 c = sym (at_past records _ _ c.if1.false)
 
 pub read_spec : {M : Type 1} → statement M
 read_spec =

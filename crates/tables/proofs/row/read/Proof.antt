@@ -1,5 +1,5 @@
 use mathlib.Core.Path.{sym, ◌∙◌}
-use Rattle.tables.proofs.laws.Table.{at_held, at-past}
+use Rattle.tables.proofs.laws.Table.{at_held, at_past}
 use Rattle.tables.proofs.laws.Rows.{rows}
 use borrow.Author.Rules.{rules}
 use Rattle.tables.proofs.row.read.Statement.{statement}
@@ -84,7 +84,7 @@ returns : tie.Need-returns
 returns c = sym (at_held rows _ _ c.before.before.before.before.before.before.before.before.if1.true)
 
 returns-2 : tie.Need-returns-2
-returns-2 c = c.unused.ensures ∙ sym (at-past rows _ _ c.before.if1.false)
+returns-2 c = c.unused.ensures ∙ sym (at_past rows _ _ c.before.if1.false)
 
 pub read_spec : {M : Type 1} → statement M
 read_spec =

@@ -1,7 +1,7 @@
 use mathlib.Core.Path.{sym}
 use native.Mathlib.Nat.{add-sub_cancel_left}
 use native.Mathlib.Omega.{arith}
-use Rattle.tables.proofs.laws.Show.{shown-empty, shown-whole}
+use Rattle.tables.proofs.laws.Show.{shown_empty, shown_whole}
 use borrow.Author.Rules.{rules}
 use Rattle.tables.proofs.show.element.Statement.{statement}
 use Rattle.tables.proofs.show.element.Tie as tie
@@ -16,7 +16,7 @@ part-result-end : tie.Need-slice-bounds-result-end
 part-result-end c = search rules
 
 returns : tie.Need-returns
-returns c = sym (shown-empty _ _ _ (λ h k. omega arith))
+returns c = sym (shown_empty _ _ _ (λ h k. omega arith))
 
 sub-result-2 : tie.Need-overflow-sub-result-2
 sub-result-2 c = search rules
@@ -28,7 +28,7 @@ part-result-end-2 : tie.Need-slice-bounds-result-end-2
 part-result-end-2 c = search rules
 
 returns-2 : tie.Need-returns-2
-returns-2 c = sym (shown-empty _ _ _ (λ h k. omega arith))
+returns-2 c = sym (shown_empty _ _ _ (λ h k. omega arith))
 
 mul_at : tie.Need-overflow-mul-at
 mul_at c = search rules
@@ -49,7 +49,7 @@ part-result-end-3 : tie.Need-slice-bounds-result-end-3
 part-result-end-3 c = search rules
 
 returns-3 : tie.Need-returns-3
-returns-3 c = rw add-sub_cancel_left (sym (shown-whole _ _ _ (omega arith) (omega arith)))
+returns-3 c = rw add-sub_cancel_left (sym (shown_whole _ _ _ (omega arith) (omega arith)))
 
 pub element-spec : {M : Type 1} → statement M
 element-spec =

@@ -1,16 +1,16 @@
 use borrow.Author.Rules.{rules}
-use Rattle.text.proofs.laws.Input.{others-in}
+use Rattle.text.proofs.laws.Input.{others_in}
 use Rattle.text.proofs.input.take_element.Statement.{statement}
 use Rattle.text.proofs.input.take_element.Tie as tie
 
 returns : tie.Need-returns
-returns c = search (others-in, rules)
+returns c = search (others_in, rules)
 
 add-if2 : tie.Need-overflow-add-if2
 add-if2 c = search rules
 
 returns-2 : tie.Need-returns-2
-returns-2 c = search (others-in, rules)
+returns-2 c = search (others_in, rules)
 
 mul-elements : tie.Need-overflow-mul-elements
 mul-elements c = search rules
@@ -49,7 +49,7 @@ add-t9 : tie.Need-overflow-add-t9
 add-t9 c = search rules
 
 returns-3 : tie.Need-returns-3
-returns-3 c = search (others-in, rules)
+returns-3 c = search (others_in, rules)
 
 pub take-element-spec : {M : Type 1} → statement M
 take-element-spec =

@@ -1,19 +1,19 @@
 use borrow.Author.Rules.{rules}
-use Rattle.text.proofs.laws.Input.{vertices-in}
+use Rattle.text.proofs.laws.Input.{vertices_in}
 use Rattle.text.proofs.input.take_vertex.Statement.{statement}
 use Rattle.text.proofs.input.take_vertex.Tie as tie
 
 returns : tie.Need-returns
-returns c = search (vertices-in, rules)
+returns c = search (vertices_in, rules)
 
 returns-2 : tie.Need-returns-2
-returns-2 c = search (vertices-in, rules)
+returns-2 c = search (vertices_in, rules)
 
 add-if3 : tie.Need-overflow-add-if3
 add-if3 c = search rules
 
 returns-3 : tie.Need-returns-3
-returns-3 c = search (vertices-in, rules)
+returns-3 c = search (vertices_in, rules)
 
 mul-coordinates : tie.Need-overflow-mul-coordinates
 mul-coordinates c = search rules
@@ -43,7 +43,7 @@ add-t8 : tie.Need-overflow-add-t8
 add-t8 c = search rules
 
 returns-4 : tie.Need-returns-4
-returns-4 c = search (vertices-in, rules)
+returns-4 c = search (vertices_in, rules)
 
 pub take-vertex-spec : {M : Type 1} → statement M
 take-vertex-spec =

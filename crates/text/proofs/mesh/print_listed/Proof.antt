@@ -1,5 +1,5 @@
 use borrow.Author.Rules.{rules}
-use Rattle.text.proofs.laws.Mesh.{listing-laws}
+use Rattle.text.proofs.laws.Mesh.{listing_laws}
 use Rattle.text.proofs.mesh.print_listed.Statement.{statement}
 use Rattle.text.proofs.mesh.print_listed.Tie as tie
 
@@ -22,16 +22,16 @@ slice-aggregate-print-leaves-2 : tie.Need-slice-aggregate-print-leaves-2
 slice-aggregate-print-leaves-2 c = search rules
 
 print-leaves-requires : tie.Need-print-leaves-requires
-print-leaves-requires c κs = search (listing-laws, rules)
+print-leaves-requires c κs = search (listing_laws, rules)
 
 enum_told : tie.Need-enum-told
 enum_told c = search rules
 
 returns : tie.Need-returns
-returns c = search (listing-laws, rules)
+returns c = search (listing_laws, rules)
 
 returns-2 : tie.Need-returns-2
-returns-2 c = search (listing-laws, rules)
+returns-2 c = search (listing_laws, rules)
 
 pub print-listed-spec : {M : Type 1} → statement M
 print-listed-spec =

@@ -1,5 +1,5 @@
 use borrow.Author.Rules.{rules}
-use Rattle.text.proofs.laws.Putting.{c-line}
+use Rattle.text.proofs.laws.Putting.{c_line_lem}
 use Rattle.text.proofs.print.print_c.Statement.{statement}
 use Rattle.text.proofs.print.print_c.Tie as tie
 
@@ -13,7 +13,7 @@ put-requires-2 : tie.Need-put-requires-2
 put-requires-2 c κs = search rules
 
 returns : tie.Need-returns
-returns c = search (c-line, rules)
+returns c = search (c_line_lem, rules)
 
 pub print-c-spec : {M : Type 1} → statement M
 print-c-spec = tie.close (tie.spec put-requires put-four-requires put-requires-2 returns)

@@ -1,5 +1,5 @@
 use borrow.Author.Rules.{rules}
-use Rattle.text.proofs.laws.Putting.{p-line}
+use Rattle.text.proofs.laws.Putting.{p_line_lem}
 use Rattle.text.proofs.print.print_p.Statement.{statement}
 use Rattle.text.proofs.print.print_p.Tie as tie
 
@@ -31,7 +31,7 @@ put-requires-2 : tie.Need-put-requires-2
 put-requires-2 c κs = search rules
 
 returns : tie.Need-returns
-returns c = search (p-line, rules)
+returns c = search (p_line_lem, rules)
 
 pub print-p-spec : {M : Type 1} → statement M
 print-p-spec =

@@ -1,5 +1,5 @@
 use borrow.Author.Rules.{rules}
-use Rattle.text.proofs.laws.Putting.{l-line}
+use Rattle.text.proofs.laws.Putting.{l_line_lem}
 use Rattle.text.proofs.print.print_row.Statement.{statement}
 use Rattle.text.proofs.print.print_row.Tie as tie
 
@@ -49,7 +49,7 @@ put-requires-2 : tie.Need-put-requires-2
 put-requires-2 c κs = search rules
 
 returns : tie.Need-returns
-returns c = search (l-line, rules)
+returns c = search (l_line_lem, rules)
 
 pub print-row-spec : {M : Type 1} → statement M
 print-row-spec =

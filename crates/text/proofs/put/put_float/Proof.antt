@@ -1,5 +1,5 @@
 use borrow.Author.Rules.{rules}
-use Rattle.text.proofs.laws.Putting.{float-put}
+use Rattle.text.proofs.laws.Putting.{float_put}
 use Rattle.text.proofs.put.put_float.Statement.{statement}
 use Rattle.text.proofs.put.put_float.Tie as tie
 
@@ -13,7 +13,7 @@ spell-requires : tie.Need-spell-requires
 spell-requires c κs = search rules
 
 returns : tie.Need-returns
-returns c = search (float-put, rules)
+returns c = search (float_put, rules)
 
 pub put-float-spec : {M : Type 1} → statement M
 put-float-spec = tie.close (tie.spec put-requires bits-requires spell-requires returns)

@@ -1,5 +1,5 @@
 use borrow.Author.Rules.{rules}
-use Rattle.text.proofs.laws.Putting.{three-put}
+use Rattle.text.proofs.laws.Putting.{three_put}
 use Rattle.text.proofs.put.put_point.Statement.{statement}
 use Rattle.text.proofs.put.put_point.Tie as tie
 
@@ -13,7 +13,7 @@ put-float-requires-3 : tie.Need-put-float-requires-3
 put-float-requires-3 c κs = search rules
 
 returns : tie.Need-returns
-returns c = search (three-put, rules)
+returns c = search (three_put, rules)
 
 pub put-point-spec : {M : Type 1} → statement M
 put-point-spec =

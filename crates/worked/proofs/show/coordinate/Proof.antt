@@ -1,4 +1,4 @@
-use Rattle.split.proofs.laws.Nan.{not-nan}
+use Rattle.split.proofs.laws.Nan.{not_nan}
 use borrow.Author.Rules.{rules}
 use Rattle.worked.proofs.show.coordinate.Statement.{statement}
 use Rattle.worked.proofs.show.coordinate.Tie as tie
@@ -19,7 +19,7 @@ write-all-requires-2 : tie.Need-write-all-requires-2
 write-all-requires-2 c κs = search rules
 
 float-to-bits-print-hex : tie.Need-float-to-bits-print-hex
-float-to-bits-print-hex c = not-nan _ c.before.before.if1.false
+float-to-bits-print-hex c = not_nan _ c.before.before.if1.false
 
 print-hex-requires : tie.Need-print-hex-requires
 print-hex-requires c κs = search rules
