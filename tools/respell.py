@@ -3,9 +3,10 @@
 
 usage: python3 tools/respell.py [FOLDER]     rewrites FOLDER/crates in place (default: here); run it once, right after port.py
 
-A definition, lemma, field, constructor or ruleset of specs/ and proofs/ is respelled everywhere: `rowWidth` is row_width, `by-places` is by_places.
+A definition, lemma, field, constructor or ruleset of specs/ and proofs/ is respelled everywhere: `rowWidth` is row_width, `by-places` is by_places;
+a lemma that stands in another one's `where`, or a fact of a `let`, in its file.
 Functions, types, facts that begin with a capital, strings, inputs and outputs keep their names. In comments only what stands in backticks is turned.
-Names that would fall together are told apart by the tables below. The old and the new names stand in respelled.txt; --pages FILE.. turns pages by it, within backticks.
+Names that would fall together are told apart by the tables below. The old and the new names stand in respelled.txt; --pages FILE.. turns pages by it, within backticks, but for names that are so in some files alone, which have a third word.
 """
 import os
 import re
@@ -92,8 +93,16 @@ def brought(text):
     return out
 
 
+def local(text):
+    """The names that a proof file declares in a `where` or by a `let`, where they are in the old spelling and the new is free."""
+    found = re.findall(r"^ +(?:pub )?([^\s:(){}.,]+) : |\blet ([^\s:(){}.,]+) (?::|=) ", text, re.M)
+    used = set(TOKEN.findall(text))
+    return {n: snake(n) for pair in found for n in pair if re.fullmatch(r"[A-Za-z0-9_'-]+", n) and snake(n) != n and snake(n) not in used}
+
+
 def turn(text, own, path, antt, kept=frozenset()):
     crate = path.split(os.sep)[0]
+    own = (local(text) | own) if antt else own
 
     def word(m, line):
         w = m.group(0)
@@ -136,8 +145,9 @@ def main():
     if words[:1] == ["--pages"]:
         own = {}
         for line in open(os.path.join(os.path.dirname(os.path.abspath(__file__)), "respelled.txt"), encoding="utf-8"):
-            old, new = line.split()
-            own[old] = new
+            old, new, *files_alone = line.split()
+            if not files_alone:
+                own[old] = new
         for p in words[1:]:
             t = open(p, encoding="utf-8").read()
             open(p, "w", encoding="utf-8").write(re.sub(r"`[^`\n]*`", lambda m: TOKEN.sub(lambda w: own.get(w.group(0), w.group(0)), m.group(0)), t))

@@ -1,5 +1,6 @@
 // The index: for a sequence of keys that only grows, the last place of each key and, from each place, the place before it with the same key.
 // It lies in one lent table: the heads, one for each key below `base`, and from `base` on the links, one for each place.
+#![tactic(auto)]
 
 ghost use Rattle.std.specs.Prelude.{◌≡◌, length, set, replicate};
 ghost use Rattle.chain.specs.Chain.{pushed};

@@ -3,6 +3,7 @@ pub mod Rows
 pub mod Uses
 pub mod Index
 pub mod Patch
+pub mod Turning
 pub mod Gather
 pub mod Tests
 pub mod Blocking

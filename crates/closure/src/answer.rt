@@ -2,7 +2,7 @@
 use tables::layout::Counts;
 
 // The counts afterwards and the number of splits, or a refusal by number and place (document 01, "What comes back").
-#[derive(Drop)]
+#[derive(Clone, Copy)]
 pub enum Refined {
     Done { counts: Counts, splits: usize },
     Refused { number: u32, place: usize },

@@ -1,4 +1,6 @@
 // Refining marked leaves with closure (document 01, "Closure").
+#![tactic(auto)]
+
 pub mod answer;
 mod blocking;
 mod build;

@@ -1,4 +1,5 @@
 pub mod Sifted
+pub mod Leaf
 pub mod Free
 pub mod Together
 pub mod Unheld

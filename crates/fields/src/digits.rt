@@ -6,7 +6,7 @@ ghost use Rattle.std.specs.Float.Ieee.{of_bits, to_bits};
 ghost use Rattle.fields.specs.Digits.{worth_of, value_of, number_of, hex_of, Narrow};
 
 // The number that a text spells, if any.
-#[derive(Drop)]
+#[derive(Clone, Copy)]
 pub enum Value {
     Is(u64),
     Not,

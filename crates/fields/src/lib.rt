@@ -1,4 +1,6 @@
 // One read line: its fields, and the numbers and floats that they spell (document 01, "The program").
+#![tactic(auto)]
+
 mod digits;
 mod field;
 mod line;

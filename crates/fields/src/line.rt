@@ -8,7 +8,7 @@ use crate::digits::{Value, float, hex, number};
 use crate::field::{field, shaped};
 
 // A vertex with its three floats, an element, a mark, or a refusal with its place (document 01, "The program").
-#[derive(Drop)]
+#[derive(Clone, Copy)]
 pub enum Line {
     Vertex { x: f64, y: f64, z: f64 },
     Element { a: u32, b: u32, c: u32, d: u32 },

@@ -4,8 +4,9 @@ use mathlib.Core.Logic.{◌↔◌, ⊎_elim, inl, inr}
 use Prim.Native.Nat.{ℕ, ◌<◌}
 use Rattle.split.specs.Split.{Side}
 use Rattle.forest.specs.Element.{Forest, Element, el, HoldsEdge}
-use Rattle.forest.specs.Closed.{Present, ClosedAsDemanded, Closed, Forced, marked, parent, edge_root, edge_child}
+use Rattle.forest.specs.Closed.{Present, ClosedAsDemanded, Closed, Forced, marked}
 use Rattle.forest.specs.Union.{Either}
+pub use Rattle.forest.proofs.Least.{forced_closed, forced_least}
 
 -- what is in the mesh of a smaller set of splits is in that of a greater one
 pub present_in : (F : Forest) (A Z : Element → Type 0) → ((e : Element) → A e → Z e) → (e : Element) → Present F A e → Present F Z e
@@ -23,22 +24,8 @@ demanded_closed {F} {S} decide c = record { parents = c.parents; edges = λ t u 
     held t u p s h (yes y) = y
     held t u p s h (no n) = absurd (c.conforming t u (record { present = p; unsplit = n }) s h)
 
--- the forced set is closed, holds the marks, and lies in every closed set that holds them (demand 3, "the smallest closed set")
-pub forced_closed : {F : Forest} {M : Element → Type 0} → Closed F (Forced F M)
-forced_closed {F} {M} = record { parents = λ k s p f. parent f; edges = edges }
-  where
-    edges : (t u : Element) → Present F (Forced F M) t → Forced F M u → HoldsEdge F t u → Forced F M t
-    edges (el k []) u p f h = edge_root p f h
-    edges (el k (s ∷ q)) u p f h = edge_child p f h
-
 pub forced_holds : {F : Forest} {M : Element → Type 0} {e : Element} → M e → Forced F M e
 forced_holds m = marked m
-
-pub forced_least : {F : Forest} {M S : Element → Type 0} → Closed F S → ((e : Element) → M e → S e) → (e : Element) → Forced F M e → S e
-forced_least c h e (marked m) = h e m
-forced_least c h e (parent {k} {s} {p} f) = c.parents k s p (forced_least c h (el k (s ∷ p)) f)
-forced_least c h e (edge_root {k} {u} l f g) = c.edges (el k []) u l (forced_least c h u f) g
-forced_least c h e (edge_child {k} {s} {p} {u} f f' g) = c.edges (el k (s ∷ p)) u (forced_least c h (el k p) f) (forced_least c h u f') g
 
 -- more marks force more, and forcing again adds nothing
 pub forced_monotone : {F : Forest} {A B : Element → Type 0} → ((e : Element) → A e → B e) → (e : Element) → Forced F A e → Forced F B e

@@ -6,6 +6,7 @@ pub mod First
 pub mod Blocking
 pub mod Shallow
 pub mod Levels
+pub mod Least
 pub mod Forced
 pub mod Smallest
 pub mod History

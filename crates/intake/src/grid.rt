@@ -9,14 +9,14 @@ use tables::layout::ROW;
 pub const CORNERS: usize = 4;
 
 // Whether an element takes a whole row, and how many elements there are.
-#[derive(Drop)]
+#[derive(Clone, Copy)]
 pub struct Grid {
     pub rows: bool,
     pub count: usize,
 }
 
 // Four vertices.
-#[derive(Drop)]
+#[derive(Clone, Copy)]
 pub struct Four {
     pub a: u32,
     pub b: u32,

@@ -1,4 +1,6 @@
 // Numbers 1 to 5 of opening: lengths, room, coordinates and vertex numbers (document 01, "What comes back").
+#![tactic(auto)]
+
 pub mod answer;
 mod coordinates;
 mod elements;

@@ -1,7 +1,7 @@
 // What listing answers.
 
 // The number of leaves, or a refusal by number and place (document 01, "What comes back").
-#[derive(Drop)]
+#[derive(Clone, Copy)]
 pub enum Listed {
     Done(usize),
     Refused { number: u32, place: usize },

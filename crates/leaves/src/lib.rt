@@ -1,4 +1,6 @@
 // Listing the leaves, root by root, with their levels (document 01, "What comes back").
+#![tactic(auto)]
+
 pub mod answer;
 mod call;
 mod roots;

@@ -9,7 +9,7 @@ use chain::wide;
 use intake::grid::{Four, Grid, corners};
 
 // Of the elements that hold a vertex: how many hold all of a, b and c, and how many hold two of them.
-#[derive(Drop)]
+#[derive(Clone, Copy)]
 pub struct Seen {
     pub all: u32,
     pub ab: u32,
@@ -18,7 +18,7 @@ pub struct Seen {
 }
 
 // Whether number 6 is the case at an element, and number 7.
-#[derive(Drop)]
+#[derive(Clone, Copy)]
 pub struct Met {
     pub same: bool,
     pub third: bool,

@@ -1,4 +1,6 @@
 // Opening a mesh: tests 1 to 8, the colours of Algorithm 2, the order of Definition 2, and the opened tables.
+#![tactic(auto)]
+
 use crate::answer::Opened;
 use intake::answer::Verdict;
 use intake::grid::{CORNERS, Grid};

@@ -12,7 +12,7 @@ use intake::grid::{Four, Grid, corners};
 use split::row::{Row, root};
 
 // Two vertices in the order of their colours.
-#[derive(Drop)]
+#[derive(Clone, Copy)]
 pub struct Two {
     pub low: u32,
     pub high: u32,

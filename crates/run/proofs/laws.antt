@@ -9,7 +9,9 @@ pub mod Single
 pub mod Needs
 pub mod Sizes
 pub mod Patch
+pub mod PatchReady
 pub mod Runs
+pub mod Leads
 pub mod Marks
 pub mod Few
 pub mod Demanded

@@ -1,4 +1,6 @@
 // Clauses 1, 2, 4, 5 and 8 of sound tables, and of clause 6 that each midpoint was made by a split (document 01, "Sound tables").
+#![tactic(auto)]
+
 pub mod answer;
 mod family;
 mod fitting;

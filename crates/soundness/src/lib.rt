@@ -1,4 +1,6 @@
 // The table check: yes exactly when the tables are sound.
+#![tactic(auto)]
+
 mod conform;
 mod midpoints;
 mod pairs;

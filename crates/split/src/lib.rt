@@ -1,2 +1,4 @@
+#![tactic(auto)]
+
 pub mod point;
 pub mod row;

@@ -8,7 +8,7 @@ ghost use Rattle.split.specs.Row.{corners_of, read_tag, tag_of, edge_of, below, 
 // The tag of a root, which is the largest: the dimension.
 const TOP: u32 = 3;
 
-#[derive(Drop)]
+#[derive(Clone, Copy)]
 pub struct Row {
     pub v0: u32,
     pub v1: u32,
@@ -21,7 +21,7 @@ pub struct Row {
 }
 
 // The two ends of an edge.
-#[derive(Drop)]
+#[derive(Clone, Copy)]
 pub struct Ends {
     pub small: u32,
     pub large: u32,

@@ -18,14 +18,14 @@ pub const MOST_ROWS: usize = 100000;
 pub const INITIAL: u32 = 4294967295;
 
 // What lent tables have room for.
-#[derive(Drop)]
+#[derive(Clone, Copy)]
 pub struct Size {
     pub vertices: usize,
     pub rows: usize,
 }
 
 // What is handed from call to call; made by `started` and `resized` only.
-#[derive(Drop)]
+#[derive(Clone, Copy)]
 pub struct Counts {
     pub vertices: usize,
     pub rows: usize,

@@ -1,3 +1,5 @@
+#![tactic(auto)]
+
 pub mod layout;
 pub mod point;
 pub mod record;

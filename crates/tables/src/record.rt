@@ -4,7 +4,7 @@ ghost use Rattle.tables.specs.Layout.{record_at, put_record};
 
 use crate::layout::RECORD;
 
-#[derive(Drop)]
+#[derive(Clone, Copy)]
 pub struct Record {
     pub first: u32,
     pub second: u32,

@@ -6,5 +6,6 @@ pub mod Mesh
 pub mod Answer
 pub mod Written
 pub mod Never
+pub mod Reached
 pub mod Roots
 pub mod Bands

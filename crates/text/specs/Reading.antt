@@ -10,7 +10,7 @@ use Rattle.text.specs.declared.input.Turn.TheVariants as turn
 use Rattle.text.specs.declared.input.Read.{Read}
 use Rattle.text.specs.declared.input.Read.TheVariants as read
 use Rattle.fields.specs.Field.{parts}
-use Rattle.text.specs.Input.{Input, input, Taken, taken, fault, takes, all, refused, read_from, read_all}
+use Rattle.text.specs.Input.{Input, input, taken, fault, takes, all, refused, read_from, read_all}
 
 -- what the filled parts of the lists hold
 abbrev pub input_of : List Float → List ℕ → List ℕ → Used → Input

@@ -6,7 +6,7 @@ use fields::{Line, read_line, stop};
 pub const LINE_FEED: u8 = 10;
 
 // How much of each list is filled.
-#[derive(Drop)]
+#[derive(Clone, Copy)]
 pub struct Used {
     pub coordinates: usize,
     pub elements: usize,
@@ -14,21 +14,21 @@ pub struct Used {
 }
 
 // What one line comes to: what is filled afterwards, or the number that refuses it.
-#[derive(Drop)]
+#[derive(Clone, Copy)]
 pub enum Step {
     Taken(Used),
     Fault(u32),
 }
 
 // Where to go on after a line, or the number that refuses it.
-#[derive(Drop)]
+#[derive(Clone, Copy)]
 pub enum Turn {
     Next { at: usize, used: Used },
     Fault(u32),
 }
 
 // All lists, or a refusal by number and line.
-#[derive(Drop)]
+#[derive(Clone, Copy)]
 pub enum Read {
     All(Used),
     Refused { number: u32, place: usize },

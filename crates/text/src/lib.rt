@@ -1,4 +1,6 @@
 // The text that the program reads and writes (document 01, "The program").
+#![tactic(auto)]
+
 mod answer;
 mod input;
 mod mesh;

@@ -11,7 +11,7 @@ use Rattle.tables.specs.Mesh.{Lent, Mesh, Counting, mesh_of, laid}
 use Rattle.tables.proofs.laws.View as view
 use Rattle.tables.proofs.laws.Rows as table
 use Rattle.forest.specs.Element.{Element}
-use Rattle.sound.specs.Sound.{vertices, rows, Grown, Sound}
+use Rattle.sound.specs.Sound.{rows, Grown, Sound}
 use Rattle.sound.specs.Forest.{SplitOf, splits_in}
 use Rattle.sound.proofs.laws.Count.{rows_count}
 use Rattle.sound.proofs.laws.Laid.{laid_sound}
@@ -19,12 +19,12 @@ use Rattle.run.specs.Skeleton.{Skeleton, skeleton, meshed}
 use Rattle.run.specs.Run.{RunAll, Within}
 use Rattle.run.specs.Demand.{Needed}
 use Rattle.run.proofs.laws.Grows.{Grows}
-use Rattle.run.proofs.laws.Goals.{AllMarkable}
+use Rattle.run.proofs.laws.Needs.{AllMarkable}
 use Rattle.run.proofs.laws.Marks.{Finished}
 use Rattle.run.proofs.laws.Demanded.{run_finished, demanded}
 use Rattle.run.proofs.laws.Points.{points_length}
 use Rattle.closure.specs.declared.answer.Refined.TheVariants.{Done}
-use Rattle.closure.specs.Refine.{room_in, Refines, sound}
+use Rattle.closure.specs.Refine.{room_in, Refines}
 use Rattle.closure.proofs.laws.Entry.{Roomy, roomy}
 use Rattle.closure.proofs.laws.Promise.{one_initials, one_roots, done_counts, done_splits}
 use Rattle.closure.proofs.laws.Within.{run_within}

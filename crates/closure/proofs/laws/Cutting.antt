@@ -27,7 +27,7 @@ use Rattle.run.proofs.laws.Holders.{holders_only}
 use Rattle.run.specs.Ready as ready
 use Rattle.run.proofs.laws.Reach.{reach_run}
 use Rattle.closure.specs.declared.step.Step.TheVariants.{Done, Full}
-use Rattle.closure.specs.State.{rows_of, records_of, seen, links_at, patch_in, State, Patchable, Parted}
+use Rattle.closure.specs.State.{rows_of, records_of, seen, links_at, patch_in, Patchable, Parted}
 use Rattle.closure.specs.Refining.{Tables, Ran, Jammed, Refines, fits_in, Patched, Cuttable}
 use Rattle.sound.proofs.laws.Searches.{and_both}
 use Rattle.closure.proofs.laws.Answers.{done_counts, full_counts, done_full}

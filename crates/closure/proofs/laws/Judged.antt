@@ -1,7 +1,7 @@
 -- Marks that have passed their tests, and those that have not.
 use mathlib.Core.Path.{◌≡◌, sym, ◌∙◌}
 use mathlib.Core.Bool.{true, false, true≢false}
-use mathlib.Core.List.{List, ◌∷◌, Memᴰ}
+use mathlib.Core.List.{List, [], ◌∷◌, Memᴰ}
 use mathlib.Core.Logic.{◌↔◌, inl, inr}
 use Prim.Native.Nat.{ℕ, suc, ◌<◌}
 use native.Mathlib.Omega.{arith}
@@ -20,7 +20,7 @@ use Rattle.sound.specs.Sound.{rows, Sound}
 use Rattle.sound.specs.Check.{lent}
 use Rattle.sound.proofs.laws.Laid.{mesh_rows}
 use Rattle.run.specs.Demand.{Deep, MarkedDeep}
-use Rattle.run.proofs.laws.Goals.{AllMarkable, deep_or_all, deep_exactly}
+use Rattle.run.proofs.laws.Needs.{AllMarkable, deep_or_all, deep_exactly}
 use Rattle.frame.specs.Marks.{deep_at}
 use Rattle.frame.proofs.laws.Marks.{deep_at_lem, deeps}
 use Rattle.closure.specs.State.{seen}
@@ -39,6 +39,7 @@ record Place (l : List ℕ) (q : ℕ) : Type 0 where
   is : get_or l index 0 ≡ q
 
 place_of_lem : (l : List ℕ) (q : ℕ) → Memᴰ q l → Place l q
+place_of_lem [] q m = elim m [ ]
 place_of_lem (x ∷ l) q (Memᴰ.head e) = record { index = 0; below = omega arith; is = sym e }
 place_of_lem (x ∷ l) q (Memᴰ.tail k) = let p = place_of_lem l q k in record { index = suc p.index; below = omega (arith, p.below); is = p.is }
 

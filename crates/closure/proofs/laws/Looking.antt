@@ -6,7 +6,6 @@ use native.Mathlib.Omega.{arith}
 use borrow.Author.Rules.{rules}
 use Rattle.split.specs.declared.row.Row.{Row}
 use Rattle.split.specs.declared.row.Ends.{Ends}
-use Rattle.split.specs.Split.{at}
 use Rattle.split.specs.Row.{edge_of}
 use Rattle.tables.specs.Layout.{no_row, row_at}
 use Rattle.tables.proofs.laws.View.{up_to_at}

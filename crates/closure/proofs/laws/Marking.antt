@@ -17,7 +17,7 @@ use Rattle.run.specs.Ready.{Reach}
 use Rattle.run.specs.Ready as ready
 use Rattle.run.specs.Run.{RunAll, StuckAll, Within}
 use Rattle.run.specs.Run as run
-use Rattle.run.proofs.laws.Goals.{Markable, markable_later}
+use Rattle.run.proofs.laws.Needs.{Markable, markable_later}
 use Rattle.run.proofs.laws.Reach.{reach_ready, reach_grows, reach_on}
 use Rattle.closure.specs.declared.step.Step.{Step}
 use Rattle.closure.specs.declared.step.Step.TheVariants.{Done, Full}

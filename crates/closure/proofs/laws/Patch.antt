@@ -6,7 +6,6 @@ use native.Mathlib.Omega.{arith}
 use native.Mathlib.Numerals.{add-one}
 use lib.ListN.{length, get_or, drop}
 use lib.Seq.{drop-cons, drop-length}
-use borrow.Author.Rules.{rules}
 use Rattle.tables.proofs.laws.View.{length_up_to, up_to_at}
 use Rattle.run.specs.Run.{cut_all}
 use Rattle.closure.proofs.laws.Index.{scratch_holds}
@@ -68,12 +67,10 @@ module _ {w s : List ℕ} {n k v : ℕ} (p : Patchable w s n k v) where
   pub turn_end : {w' s' : List ℕ} {j : ℕ} → Turn w s n k v w' s' j → k ≤ j → Parted w s n k v w' s'
   unfolding cut_all
   turn_end {w'} t h =
-      done (rw (last-is t h) at t) (patch_end s k)
+      done (rw (last_is t h) at t) (patch_end s k)
     where
-      last-is : {w' s' : List ℕ} {j : ℕ} → Turn w s n k v w' s' j → k ≤ j → j ≡ k
-      last-is t h = omega (arith, t.within, h)
+      last_is : {w' s' : List ℕ} {j : ℕ} → Turn w s n k v w' s' j → k ≤ j → j ≡ k
+      last_is t h = omega (arith, t.within, h)
 
       done : {w' s' : List ℕ} → Turn w s n k v w' s' k → drop k (patch_in s k) ≡ [] → Parted w s n k v w' s'
       done t e = record { size = t.size; state = t.state; rows = rw e at t.rows }
-
-pub ruleset turning = (turn_start, turn_ready, turn_next, turn_end, rules)

@@ -14,7 +14,7 @@ use Rattle.run.specs.Skeleton.{skeleton, meshed}
 use Rattle.run.specs.Ready.{Ready}
 use Rattle.run.specs.Run.{Within}
 use Rattle.run.specs.Demand.{Deep, Outgrows}
-use Rattle.run.proofs.laws.Goals.{AllMarkable, deep_or_all}
+use Rattle.run.proofs.laws.Needs.{AllMarkable, deep_or_all}
 use Rattle.closure.specs.declared.answer.Refined.TheVariants.{Done}
 use Rattle.closure.specs.Refine.{absent, room_in, Engine, Accepts, outgrown, fits, deep, shallow, OnMarks, missing, present, RefinesBy, unsound, sound}
 use Rattle.closure.proofs.laws.Entry.{entry_mesh, entry_ready}

@@ -1,7 +1,7 @@
 -- What the tests on one row answer.
 use mathlib.Core.Path.{◌≡◌, refl, sym, ◌∙◌}
 use mathlib.Core.Bool.{Bool, true, false, not, ◌&&◌, ◌||◌, cond}
-use Prim.Native.Nat.{ℕ, ◌+◌, ◌≤◌}
+use Prim.Native.Nat.{ℕ, ◌+◌}
 use native.Mathlib.Decide.{ℕ_discrete}
 use native.Mathlib.Omega.{arith}
 use lib.Dec.{eqb, ltb}
@@ -66,18 +66,18 @@ pub holding_other : {e : Ends} {a : ℕ} (r : Row) → EndOf e a → has r a ≡
 unfolding holding leaf_with
 holding_other {e} {a} r x h = go (ℕ_discrete e.small a) x
   where
-    with-true : (p q : Bool) → p && q ≡ p && true && q
-    with-true true q = refl
-    with-true false q = refl
+    with_true : (p q : Bool) → p && q ≡ p && true && q
+    with_true true q = refl
+    with_true false q = refl
 
-    true-last : (p : Bool) → p ≡ p && true
-    true-last true = refl
-    true-last false = refl
+    true_last : (p : Bool) → p ≡ p && true
+    true_last true = refl
+    true_last false = refl
 
     go : Dec (e.small ≡ a) → EndOf e a → eqb r.child 0 && has r (other_end e a) ≡ eqb r.child 0 && has r e.small && has r e.large
-    go (yes s) y = rw (← other_large e s, s, h) (with-true (eqb r.child 0) (has r e.large))
+    go (yes s) y = rw (← other_large e s, s, h) (with_true (eqb r.child 0) (has r e.large))
     go (no d) (small s) = absurd (d (sym s))
-    go (no d) (large s) = rw (← other_small e d, ← s, h) (true-last (eqb r.child 0 && has r e.small))
+    go (no d) (large s) = rw (← other_small e d, ← s, h) (true_last (eqb r.child 0 && has r e.small))
 
 -- what a branch on the answer b of a test t leaves
 pub branch_no : {A : Type 0} {b t : Bool} (x y : A) → b ≡ t → not b ≡ true → y ≡ cond t x y

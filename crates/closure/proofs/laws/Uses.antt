@@ -1,5 +1,5 @@
 -- A slot entered. The counts of uses are the last numbers of the scratch table: the index and the patch lie before them.
-use mathlib.Core.Path.{◌≡◌, refl, sym, ap, ◌∙◌}
+use mathlib.Core.Path.{◌≡◌, sym, ap, ◌∙◌}
 use mathlib.Core.List.{List}
 use Prim.Native.Nat.{ℕ, ◌+◌, ◌-◌, ◌*◌, ◌≤◌, ◌<◌}
 use native.Mathlib.Omega.{arith}
@@ -117,9 +117,9 @@ module _ (s : List ℕ) (n : ℕ) (r : Row) where
   row_pushed_indexed {key} is low room few i =
       let zero : 4 * n + 0 ≡ 4 * n = omega arith in
       let one_more : 4 * n + 1 + 1 ≡ 4 * n + 2 = omega arith in
-      let two-more : 4 * n + 2 + 1 ≡ 4 * n + 3 = omega arith in
+      let two_more : 4 * n + 2 + 1 ≡ 4 * n + 3 = omega arith in
       let all : 4 * n + 3 + 1 ≡ 4 * (n + 1) = omega arith in
       let a : Indexed key (4 * n + 1) links_at first = entered_indexed i (ap key (sym zero) ∙ is 0 (omega arith)) (low 0 (omega arith)) (omega arith) (omega arith) in
       let b : Indexed key (4 * n + 2) links_at second = rw one_more at (entered_indexed a (is 1 (omega arith)) (low 1 (omega arith)) (omega (arith, entered_length s (4 * n) r.v0)) (omega arith)) in
-      let c : Indexed key (4 * n + 3) links_at third = rw two-more at (entered_indexed b (is 2 (omega arith)) (low 2 (omega arith)) (omega (arith, second_length)) (omega arith)) in
+      let c : Indexed key (4 * n + 3) links_at third = rw two_more at (entered_indexed b (is 2 (omega arith)) (low 2 (omega arith)) (omega (arith, second_length)) (omega arith)) in
       rw all at (entered_indexed c (is 3 (omega arith)) (low 3 (omega arith)) (omega (arith, third_length)) (omega arith))

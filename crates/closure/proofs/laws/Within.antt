@@ -13,7 +13,7 @@ use Rattle.run.specs.Skeleton.{Skeleton, row_in, meshed}
 use Rattle.run.specs.Ready.{Ready}
 use Rattle.run.specs.Run.{blocking, split_patch, Run, clear, blocked, RunAll, done, passed, refined, Within, Over, vertices, rows, Stuck, full, below, after, StuckAll, here}
 use Rattle.run.specs.Demand.{Outgrows}
-use Rattle.run.proofs.laws.Goals.{AllMarkable}
+use Rattle.run.proofs.laws.Needs.{AllMarkable}
 use Rattle.run.proofs.laws.Refused.{no_room}
 
 module _ (room : Size) where

@@ -4,7 +4,6 @@ use mathlib.Core.Bool.{Bool, true, false, ◌&&◌, true≢false, ◌||◌}
 use mathlib.Core.List.{List, [], ◌∷◌}
 use mathlib.Core.Logic.{◌⊎◌, inl, inr}
 use Prim.Native.Nat.{ℕ, zero, suc, ◌+◌, ◌≤◌, ◌<◌}
-use native.Mathlib.Decide.{ℕ_discrete}
 use native.Mathlib.Omega.{arith}
 use borrow.Author.Tests.{leb-true, eqb-true, eq-eqb, ne_eqb, not-true, not-false}
 use Rattle.split.specs.Split.{Side, left, right, Holds}
@@ -20,6 +19,7 @@ use Rattle.sound.proofs.laws.Searches.{and_both}
 use Rattle.sound.proofs.laws.Halves.{parent_there, child_split, child_from}
 use Rattle.coarsen_theory.specs.Dropping.{leaf_now, blocks, droppable, drop_one, drop_all, none, gone_by}
 use Rattle.coarsen_theory.specs.Free.{LeafNow, childless, merged, Free}
+pub use Rattle.coarsen_theory.proofs.laws.Leaf.{leaf_now_lem, now_leaf}
 
 -- ---- tests and what they say
 
@@ -33,16 +33,6 @@ none_of test n k e h = go (test k) refl
     go : (b : Bool) → test k ≡ b → test k ≡ false
     go true t = absurd (true≢false (sym (any_has test n k h t) ∙ e))
     go false t = t
-
-module _ {m : Mesh} {gone : ℕ → Bool} where
-  pub leaf_now_lem : (r : ℕ) → leaf_now m gone r ≡ true → LeafNow m gone r
-  unfolding leaf_now
-  leaf_now_lem r h = elim (ℕ_discrete (row_of m r).child 0) [ yes e ↦ childless e | no d ↦ merged d (rw (ne_eqb (row_of m r).child 0 d) at h) ]
-
-  pub now_leaf : {r : ℕ} → LeafNow m gone r → leaf_now m gone r ≡ true
-  unfolding leaf_now
-  now_leaf {r} (childless e) = rw (eq-eqb (row_of m r).child 0 e)
-  now_leaf {r} (merged d e) = rw (ne_eqb (row_of m r).child 0 d) e
 
 -- v may be dropped
 pub record Droppable (m : Mesh) (i : ℕ) (gone : ℕ → Bool) (v : ℕ) : Type 0 where

@@ -56,11 +56,11 @@ module _ {m : Mesh} {i t : ℕ} (g : Grown m i t) {gone : ℕ → Bool} (f : Fre
       stuck true e n = absurd (n (leaf_now_lem r e))
       stuck false e n = e
 
-      after-leaf : (row_of after (new_row m gone r)).child ≡ 0 → leaf_now after none (new_row m gone r) ≡ true
-      after-leaf e = now_leaf (childless e)
+      after_leaf : (row_of after (new_row m gone r)).child ≡ 0 → leaf_now after none (new_row m gone r) ≡ true
+      after_leaf e = now_leaf (childless e)
 
       go : Fate m gone r → leaf_now m gone r ≡ leaf_now after none (new_row m gone r)
-      go (leaf w e) = now_leaf w ∙ sym (after-leaf (row_child m i gone r l k ∙ e))
+      go (leaf w e) = now_leaf w ∙ sym (after_leaf (row_child m i gone r l k ∙ e))
       go (parent s stay e) = stuck (leaf_now m gone r) refl (still_split g f r s stay) ∙ sym (split_says after (new_row m gone r) (λ z. omega (arith, row_open g f r l s stay, open_later g f r l s stay)))
 
   module _ (r : ℕ) (l : r < rows m) (split : (row_of m r).child ≡ 0 → ⊥) (stay : gone (split_vertex m r) ≡ false) where

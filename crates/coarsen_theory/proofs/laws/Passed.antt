@@ -33,17 +33,17 @@ module _ (m : Mesh) (i : ℕ) where
   unfolding drop_one stays
   one_entry gone v l = go (droppable m i gone v) refl
     where
-      or-false : (b : Bool) → not (b || false) ≡ not b
-      or-false true = refl
-      or-false false = refl
+      or_false : (b : Bool) → not (b || false) ≡ not b
+      or_false true = refl
+      or_false false = refl
 
-      or-true : (b : Bool) → not (b || true) ≡ false
-      or-true true = refl
-      or-true false = refl
+      or_true : (b : Bool) → not (b || true) ≡ false
+      or_true true = refl
+      or_true false = refl
 
       go : (b : Bool) → droppable m i gone v ≡ b → count (λ u. not (gone u || (droppable m i gone v && eqb u v))) (vertices m) + 1 ≡ count (λ u. not (gone u)) (vertices m) + cond b 0 1
-      go true d = rw d (omega (arith, count_one (λ u. not (gone u)) (λ u. not (gone u || (true && eqb u v))) v (vertices m) l (ap not (droppable_says m i gone v d).still) (rw (eq-eqb v v refl) (or-true (gone v))) (λ u o. rw (ne_eqb u v o) (or-false (gone u)))))
-      go false d = rw d (omega (arith, count_same (λ u. not (gone u || false)) (λ u. not (gone u)) (vertices m) (λ u h. or-false (gone u))))
+      go true d = rw d (omega (arith, count_one (λ u. not (gone u)) (λ u. not (gone u || (true && eqb u v))) v (vertices m) l (ap not (droppable_says m i gone v d).still) (rw (eq-eqb v v refl) (or_true (gone v))) (λ u o. rw (ne_eqb u v o) (or_false (gone u)))))
+      go false d = rw d (omega (arith, count_same (λ u. not (gone u || false)) (λ u. not (gone u)) (vertices m) (λ u h. or_false (gone u))))
 
   -- vertices left and entries are vertices before and entries passed over
   pub passed_count : (vs : List ℕ) (gone : ℕ → Bool) → ((v : ℕ) → Memᴰ v vs → v < vertices m) → new_vertex (drop_all m i gone vs) (vertices m) + length vs ≡ new_vertex gone (vertices m) + passed_over m i gone vs

@@ -94,10 +94,10 @@ module _ {m : Mesh} {i t : ℕ} (g : Grown m i t) where
         dropped d e true k = absurd (true≢false (sym e ∙ kept_holds m gone (row_of m q).child k (held_split g q l d left)))
         dropped d e false k = refl
 
-        by-leaf : LeafNow m gone q → 0 ≡ cond (keeps m gone (row_of m q).child) (new_row m gone (row_of m q).child) 0
-        by-leaf (childless e) = rw (e, root_kept g f 0 h, root_same g f 0 (omega arith))
-        by-leaf (merged d e) = dropped d e (keeps m gone (row_of m q).child) refl
+        by_leaf : LeafNow m gone q → 0 ≡ cond (keeps m gone (row_of m q).child) (new_row m gone (row_of m q).child) 0
+        by_leaf (childless e) = rw (e, root_kept g f 0 h, root_same g f 0 (omega arith))
+        by_leaf (merged d e) = dropped d e (keeps m gone (row_of m q).child) refl
 
         go : Fate m gone q → new_child m gone q ≡ cond (keeps m gone (row_of m q).child) (new_row m gone (row_of m q).child) 0
-        go (leaf w e) = e ∙ by-leaf w
+        go (leaf w e) = e ∙ by_leaf w
         go (parent d stay e) = e ∙ rw (children_kept g f q l d stay left)

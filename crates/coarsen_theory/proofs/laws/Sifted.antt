@@ -57,11 +57,11 @@ module _ {A : Type 0} (test : ℕ → Bool) (f : ℕ → A) where
   pub sift_length : (n : ℕ) → length (sift test f n) ≡ count test n
   unfolding sift count
   sift_length zero = refl
-  sift_length (suc n) = rw (sift, count, length-append (sift test f n) (cond (test n) (f n ∷ []) []), sift_length n) (ap (λ (x : ℕ). count test n + x) (one-or-none (test n)))
+  sift_length (suc n) = rw (sift, count, length-append (sift test f n) (cond (test n) (f n ∷ []) []), sift_length n) (ap (λ (x : ℕ). count test n + x) (one_or_none (test n)))
     where
-      one-or-none : (b : Bool) → length (cond b (f n ∷ []) []) ≡ cond b 1 0
-      one-or-none true = refl
-      one-or-none false = refl
+      one_or_none : (b : Bool) → length (cond b (f n ∷ []) []) ≡ cond b 1 0
+      one_or_none true = refl
+      one_or_none false = refl
 
   pub sift_at : (n k : ℕ) (d : A) → k < n → test k ≡ true → get_or (sift test f n) (count test k) d ≡ f k
   unfolding sift

@@ -177,10 +177,10 @@ module _ {m : Mesh} {i t : ℕ} (g : Grown m i t) {gone : ℕ → Bool} (f : Fre
 
     row_again_is : thin_row m more r ≡ thin_row after again (new_row m gone r)
     unfolding thin_row
-    row_again_is = λ j. remade (sym (row_at_lem m i gone r b k) j) (corners (corner_again 0 j) (corner_again 1 j) (corner_again 2 j) (corner_again 3 j)) (parent-again j) (child_again j)
+    row_again_is = λ j. remade (sym (row_at_lem m i gone r b k) j) (corners (corner_again 0 j) (corner_again 1 j) (corner_again 2 j) (corner_again 3 j)) (parent_again j) (child_again j)
       where
-        parent-again : new_row m more (row_of m r).parent ≡ new_row after again (row_of after (new_row m gone r)).parent
-        parent-again = row_again (row_of m r).parent parent_below ∙ ap (new_row after again) (sym (row_parent m i gone r b k))
+        parent_again : new_row m more (row_of m r).parent ≡ new_row after again (row_of after (new_row m gone r)).parent
+        parent_again = row_again (row_of m r).parent parent_below ∙ ap (new_row after again) (sym (row_parent m i gone r b k))
 
   kept_both : (r : ℕ) → r < rows m → keeps m more r ≡ true → keeps m gone r ≡ true
   kept_both r b h = (and_both _ _ (sym (row_through r b) ∙ h)).0

@@ -7,7 +7,7 @@ use Rattle.forest.specs.Element.{Forest, Element}
 use Rattle.run.specs.Skeleton.{Skeleton, meshed}
 use Rattle.run.specs.Ready.{Ready}
 use Rattle.run.specs.Demand.{marked_elements}
-use Rattle.run.proofs.laws.Goals.{AllMarkable}
+use Rattle.run.proofs.laws.Needs.{AllMarkable}
 use Rattle.run.proofs.laws.Calls.{After, after_needed}
 use Rattle.completion.specs.Completion.{Completed}
 use Rattle.completion.proofs.laws.Demanded.{completed_finished}

@@ -13,7 +13,7 @@ use Rattle.run.specs.Skeleton.{Skeleton, row_in, meshed}
 use Rattle.run.specs.Ready.{Ready}
 use Rattle.run.specs.Demand.{Needed}
 use Rattle.run.proofs.laws.Grows.{Grows, grows_on}
-use Rattle.run.proofs.laws.Goals.{AllMarkable, needed_split, needed_mark, needed_exactly}
+use Rattle.run.proofs.laws.Needs.{AllMarkable, needed_split, needed_mark, needed_exactly}
 use Rattle.run.proofs.laws.Sizes.{fewer_rows, fewer_vertices}
 use Rattle.run.proofs.laws.Single.{growing}
 use Rattle.completion.specs.Completion.{split_marks, Completed}

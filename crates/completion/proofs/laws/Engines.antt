@@ -11,7 +11,7 @@ use Rattle.tables.specs.declared.layout.Size.{Size}
 use Rattle.run.specs.Skeleton.{Skeleton}
 use Rattle.run.specs.Ready.{Ready}
 use Rattle.run.specs.Run.{RunAll, StuckAll, Within}
-use Rattle.run.proofs.laws.Goals.{AllMarkable}
+use Rattle.run.proofs.laws.Needs.{AllMarkable}
 use Rattle.run.proofs.laws.Demanded.{run_finished, demanded}
 use Rattle.run.proofs.laws.Room.{enough_room}
 use Rattle.run.proofs.laws.Refused.{no_room}

@@ -20,7 +20,7 @@ use Rattle.run.specs.Skeleton.{skeleton}
 use Rattle.run.specs.Ready.{Open}
 use Rattle.run.proofs.laws.Edge.{Both, edge_shallow}
 use Rattle.run.proofs.laws.Holders.{has_holds, holds_has}
-use Rattle.run.proofs.laws.Goals.{Inside, held_forced, split_shallow}
+use Rattle.run.proofs.laws.Needs.{Inside, held_forced, split_shallow}
 use Rattle.completion.specs.Completion.{parents_in, ripe, lowest}
 use Rattle.intake.proofs.laws.First.{first_found}
 

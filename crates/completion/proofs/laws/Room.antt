@@ -15,7 +15,7 @@ use Rattle.run.specs.Skeleton.{Skeleton, meshed}
 use Rattle.run.specs.Ready.{Ready, Growing}
 use Rattle.run.specs.Run.{Within, Over}
 use Rattle.run.specs.Demand.{Needed, Outgrows}
-use Rattle.run.proofs.laws.Goals.{Inside, AllMarkable, markable_open, markable_later, needed_split, needed_mark}
+use Rattle.run.proofs.laws.Needs.{Inside, AllMarkable, markable_open, markable_later, needed_split, needed_mark}
 use Rattle.run.proofs.laws.Single.{growing}
 use Rattle.run.proofs.laws.Sizes.{split_fits, split_outgrows}
 use Rattle.completion.specs.Completion.{split_one, Completed, StuckLoop, Stuck}

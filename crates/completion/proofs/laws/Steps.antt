@@ -14,7 +14,7 @@ use Rattle.sound.specs.Forest.{forest_of, element_of}
 use Rattle.run.specs.Skeleton.{Skeleton, row_in, meshed}
 use Rattle.run.specs.Ready.{Ready, Growing, Open}
 use Rattle.run.proofs.laws.Grows.{Grows, grows_same, grows_on}
-use Rattle.run.proofs.laws.Goals.{Inside, AllMarkable, markable_open, markable_later}
+use Rattle.run.proofs.laws.Needs.{Inside, AllMarkable, markable_open, markable_later}
 use Rattle.completion.specs.Completion.{lowest, split_one, split_marks, Completes, complete, onward, Completed}
 use Rattle.completion.proofs.laws.Marks.{marks_through}
 use Rattle.completion.proofs.laws.One.{one_rows, one_records, one_divided}

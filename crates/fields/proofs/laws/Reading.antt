@@ -1,6 +1,6 @@
 -- Reading digits, numbers and floats.
 use mathlib.Core.Path.{◌≡◌, refl, sym, ap, ◌∙◌, subst}
-use mathlib.Core.Bool.{Bool, true, false, not, true≢false}
+use mathlib.Core.Bool.{Bool, true, not, true≢false}
 use mathlib.Core.List.{List, [], ◌∷◌}
 use Prim.Native.Nat.{ℕ, suc, ◌+◌, ◌-◌, ◌*◌, ◌%◌, ◌^◌, ◌≤◌, ◌<◌}
 use native.Mathlib.Nat.{pow-succ', le_trans, mul_comm, pow-le-pow_right, pow-zero}
@@ -144,8 +144,6 @@ module _ (l : List ℕ) where
   pub hex_not : (length l ≡ 16 → ⊥) → Not ≡ hex_of l
   unfolding hex_of
   hex_not e = rw (ne_eqb (length l) 16 e)
-
-pub ruleset numbers = (number_empty, number_long, number_led, number_zero, number_narrow, number_spelled, hex_narrow, hex_spelled, hex_not)
 
 -- ---- floats
 

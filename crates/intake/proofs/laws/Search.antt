@@ -44,11 +44,11 @@ module _ (test : ℕ → Bool) where
   pub any_has : (n k : ℕ) → k < n → test k ≡ true → any test n ≡ true
   unfolding any
   any_has zero k h t = absurd (omega arith)
-  any_has (suc n) k h t = elim (eq-or-lt_of_le (le_of_suc-le-suc h)) [ inl e ↦ rw (any, ← e, t, or-true) | inr l ↦ rw (any, any_has n k l t) ]
+  any_has (suc n) k h t = elim (eq-or-lt_of_le (le_of_suc-le-suc h)) [ inl e ↦ rw (any, ← e, t, or_true) | inr l ↦ rw (any, any_has n k l t) ]
     where
-      or-true : (b : Bool) → b || true ≡ true
-      or-true true = refl
-      or-true false = refl
+      or_true : (b : Bool) → b || true ≡ true
+      or_true true = refl
+      or_true false = refl
 
   pub any_none : (n : ℕ) → ((k : ℕ) → k < n → test k ≡ false) → any test n ≡ false
   unfolding any

@@ -19,7 +19,7 @@ use Rattle.sound.specs.Sound.{rows, row_of, Sound}
 use Rattle.sound.specs.Forest.{splits_in}
 use Rattle.sound.specs.Check.{lent}
 use Rattle.sound.proofs.laws.Afresh.{root_depth}
-use Rattle.run.proofs.laws.Goals.{split_shallow}
+use Rattle.run.proofs.laws.Needs.{split_shallow}
 use Rattle.closure.proofs.laws.Blank.{rows_blank}
 use Rattle.closure.proofs.laws.Entry.{roomy}
 use Rattle.closure.proofs.laws.LeafSum.{sound_leaves}

@@ -22,7 +22,7 @@ use Rattle.sound.proofs.laws.Offspring.{place_below, place_element}
 use Rattle.sound.proofs.laws.Splits.{split_row}
 use Rattle.run.specs.Skeleton.{row_in}
 use Rattle.run.specs.Leaves.{split_in}
-use Rattle.run.proofs.laws.Goals.{split_shallow}
+use Rattle.run.proofs.laws.Needs.{split_shallow}
 use Rattle.run.proofs.laws.LeafSum.{split_in_lem}
 use Rattle.leaves.specs.Listing.{listing_from, weights_of}
 use Rattle.leaves.proofs.laws.Steps.{listing_end, listing_leaf, listing_split}

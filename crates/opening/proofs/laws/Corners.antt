@@ -1,13 +1,11 @@
 -- Corner slots against elements: four slots are an element, and it holds a vertex in at most one of them.
-use mathlib.Core.Path.{◌≡◌, refl, sym, ◌∙◌, ap}
+use mathlib.Core.Path.{◌≡◌, refl, sym, ◌∙◌}
 use mathlib.Core.Bool.{Bool, true, ◌&&◌, cond, or_assoc}
-use mathlib.Core.List.{List}
 use Prim.Native.Nat.{ℕ, zero, suc, ◌+◌, ◌*◌, ◌/◌, ◌%◌, ◌≤◌, ◌<◌}
 use native.Mathlib.Nat.{mul-suc}
 use native.Mathlib.Omega.{arith}
 use borrow.Author.Tests.{eqb-true}
 use lib.Dec.{eqb}
-use lib.ListN.{length}
 use Rattle.intake.specs.Cells.{Cells}
 use Rattle.intake.specs.Search.{any, count}
 use Rattle.intake.specs.Causes.{vertex, has}
@@ -25,10 +23,10 @@ module _ {vertices : ℕ} {E : Cells} (x : Plain vertices E) (P : ℕ → Bool) 
   element_visits : (v k : ℕ) → k < E.count → visits (slot E) v (λ i. P (i / 4)) (4 * suc k) ≡ visits (slot E) v (λ i. P (i / 4)) (4 * k) + cond (has E k v && P k) 1 0
   unfolding visits
   element_visits v k h =
-      rw (mul-suc, count_add, in-it, count_once (λ q. eqb (vertex E k q) v) (P k) 4 once, has_any E k v)
+      rw (mul-suc, count_add, in_it, count_once (λ q. eqb (vertex E k q) v) (P k) 4 once, has_any E k v)
     where
-      in-it : count (λ q. eqb (slot E (4 * k + q)) v && P ((4 * k + q) / 4)) 4 ≡ count (λ q. eqb (vertex E k q) v && P k) 4
-      in-it = count_same _ _ 4 (λ q l. let j : (4 * k + q) / 4 ≡ k = omega arith in let p : (4 * k + q) % 4 ≡ q = omega arith in rw (j, p))
+      in_it : count (λ q. eqb (slot E (4 * k + q)) v && P ((4 * k + q) / 4)) 4 ≡ count (λ q. eqb (vertex E k q) v && P k) 4
+      in_it = count_same _ _ 4 (λ q l. let j : (4 * k + q) / 4 ≡ k = omega arith in let p : (4 * k + q) % 4 ≡ q = omega arith in rw (j, p))
 
       once : (p q : ℕ) → p < 4 → q < 4 → eqb (vertex E k p) v ≡ true → eqb (vertex E k q) v ≡ true → p ≡ q
       once p q l m s t = x.apart k p q h l m (eqb-true _ v s ∙ sym (eqb-true _ v t))

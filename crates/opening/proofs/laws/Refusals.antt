@@ -58,6 +58,7 @@ tested_refused (c ∷ cs) n p e = go (first c.present c.places) refl e (tested_r
 
 refused_tested : (cs : List Cause) (n p : ℕ) → RefusedBy cs n p → tested cs ≡ verdict.Refused n p
 unfolding tested
+refused_tested [] n p x = elim x [ ]
 refused_tested (c ∷ cs) n p (here s) = rw (tested, found_first c.present c.places p s)
 refused_tested (c ∷ cs) n p (later s r) = rw (tested, none_first c.present c.places s) (refused_tested cs n p r)
 
@@ -85,6 +86,7 @@ cause_number F E a b c n p (later _ (later _ (later _ (later _ (here s))))) = (o
 cause_number F E a b c n p (later _ (later _ (later _ (later _ (later _ (here s)))))) = (omega arith, omega arith)
 cause_number F E a b c n p (later _ (later _ (later _ (later _ (later _ (later _ (here s))))))) = (omega arith, omega arith)
 cause_number F E a b c n p (later _ (later _ (later _ (later _ (later _ (later _ (later _ (here s)))))))) = (omega arith, omega arith)
+cause_number F E a b c n p (later _ (later _ (later _ (later _ (later _ (later _ (later _ (later _ x)))))))) = elim x [ ]
 
 -- ---- the verdict
 

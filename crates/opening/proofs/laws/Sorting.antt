@@ -1,22 +1,18 @@
 -- Two vertices brought into order, and a row made of four: what each step of the code adds.
 use mathlib.Core.Path.{◌≡◌, refl, ap, ◌∙◌}
 use mathlib.Core.Bool.{Bool, true, false, cond}
-use mathlib.Core.List.{List}
-use Prim.Native.Nat.{ℕ, ◌+◌, ◌*◌, ◌≤◌, ◌<◌}
-use native.Mathlib.Nat.{add-zero}
+use Prim.Native.Nat.{ℕ, ◌≤◌, ◌<◌}
 use native.Mathlib.Omega.{arith}
 use borrow.Author.Tests.{ltb-true, ltb-false, lt-ltb, le-ltb, eq-eqb, ne_eqb}
 use lib.Dec.{ltb}
-use lib.ListN.{length, get_or}
 use Rattle.tables.specs.Layout.{most_vertices}
 use Rattle.split.specs.Split.{three, number, Corners, corners}
 use Rattle.split.specs.Row.{root}
 use Rattle.forest.specs.Start.{arranged, moved}
 use Rattle.intake.specs.Cells.{Cells, four_of}
-use Rattle.intake.specs.Causes.{vertex}
 use Rattle.opening.specs.declared.order.Two.{Two}
 use Rattle.intake.specs.declared.grid.Four.{Four}
-use Rattle.opening.specs.Order.{lower, upper, sorted, given, root_of}
+use Rattle.opening.specs.Order.{lower, upper, sorted, root_of}
 use Rattle.opening.specs.Scratch.{Plain}
 use Rattle.opening.specs.Sorting.{four, in_order, Low}
 

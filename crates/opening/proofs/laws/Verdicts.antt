@@ -1,8 +1,6 @@
 -- Test 8 stands once tests 6 and 7 have passed.
 use mathlib.Core.Path.{◌≡◌}
-use mathlib.Core.List.{List}
-use Prim.Native.Nat.{ℕ, ◌/◌}
-use lib.ListN.{length}
+use Prim.Native.Nat.{ℕ}
 use Rattle.intake.specs.Cells.{Cells}
 use Rattle.intake.specs.declared.answer.Found.TheVariants.{Nowhere}
 use Rattle.intake.specs.declared.answer.Verdict.TheVariants.{Passed}

@@ -5,27 +5,24 @@ use mathlib.Core.List.{List, [], ◌∷◌, ◌++◌, Memᴰ}
 use mathlib.Core.Logic.{◌⊎◌, inl, inr}
 use Prim.Native.Nat.{ℕ, ◌+◌, ◌≤◌, ◌<◌}
 use native.Mathlib.Omega.{arith}
-use lib.ListN.{length, get_or, length-append, get_or-append}
+use lib.ListN.{length, length-append}
 use Rattle.split.specs.declared.row.Row.{Row}
 use Rattle.split.specs.declared.row.Ends.{Ends}
 use Rattle.split.specs.declared.point.Point.{Point}
-use Rattle.split.specs.Split.{far, at, Holds}
+use Rattle.split.specs.Split.{far, Holds}
 use Rattle.split.specs.Row.{corners_of, tag_of, edge_of}
-use Rattle.split.proofs.laws.Places.{le_or_lt}
 use Rattle.split.proofs.laws.Tags.{tag_range}
 use Rattle.split.proofs.laws.Children.{not_both, from_parent}
 use Rattle.split.proofs.laws.Rows.{vertices_step}
-use Rattle.tables.specs.Layout.{no_record}
 use Rattle.tables.specs.Mesh.{Mesh}
 use Rattle.intake.specs.declared.answer.Found.TheVariants.{Nowhere}
-use Rattle.sound.specs.Sound.{vertices, rows, record_of, row_of, Records, Grown, Conforming}
+use Rattle.sound.specs.Sound.{vertices, rows, record_of, row_of, Records, Grown}
 use Rattle.sound.proofs.laws.Leaves.{leaf_whole}
 use Rattle.sound.proofs.laws.Placed.{placed, row_distinct}
 use Rattle.run.specs.Skeleton.{Skeleton, row_in, meshed}
 use Rattle.run.specs.Ready.{Ready}
 use Rattle.run.specs.Run.{holders, blocking, cut, cut_all, record_for, split_patch}
 use Rattle.run.proofs.laws.Cuts.{Cuts, cut_grown}
-use Rattle.run.proofs.laws.Listed.{append_first}
 use Rattle.run.proofs.laws.Points.{points_next}
 use Rattle.run.proofs.laws.Single.{Ripe, with, cuts_again, growing, wider as wide, cuts_new}
 use Rattle.run.proofs.laws.Holders.{holders_only, holders_has, Once, one, holders_once, clear_edges}
@@ -59,11 +56,11 @@ cut_rest (s ∷ ss) {m} {i} {t} {v} {e} o g few w r = go o (cut_rest ss {m = wit
 -- ---- the first leaf, with the new vertex
 
 module _ {P : List Point} {i t : ℕ} {S : Skeleton} (y : Ready P i t S) (few : length S.records + 1 < 4294967295) where
-  abbrev m : Mesh
+  abbrev pub m : Mesh
   m = meshed P S
 
   -- one vertex more
-  abbrev wider : Ends → List Row → Mesh
+  abbrev pub wider : Ends → List Row → Mesh
   wider e W = wide P S e W
 
   cuts_first : (e : Ends) (s : ℕ) → Ripe m e s → Cuts m (wider e (cut (length S.records) S.rows s)) i t s (length S.records)
@@ -83,10 +80,10 @@ module _ {P : List Point} {i t : ℕ} {S : Skeleton} (y : Ready P i t S) (few : 
   -- ---- the whole patch of a leaf that no leaf blocks
 
   module _ (r : ℕ) (there : r < length S.rows) (leaf : (row_in S.rows r).child ≡ 0) (shallow : (row_in S.rows r).depth < 60) (clear : blocking S.rows r ≡ Nowhere) where
-    abbrev e : Ends
+    abbrev pub e : Ends
     e = edge_of (row_in S.rows r)
 
-    abbrev hs : List ℕ
+    abbrev pub hs : List ℕ
     hs = holders S.rows e
 
     ripe : (q : ℕ) → Memᴰ q hs → Ripe m e q
@@ -102,10 +99,10 @@ module _ {P : List Point} {i t : ℕ} {S : Skeleton} (y : Ready P i t S) (few : 
     own : Memᴰ r hs
     own = let b = own_both (row_in S.rows r) in holders_has S.rows e r (record { there = there; holding = record { leaf = leaf; small = b.small; large = b.large } })
 
-    patched_wide : Patched m (wider e (cut_all (length S.records) S.rows hs)) i t (length S.records) hs
+    pub patched_wide : Patched m (wider e (cut_all (length S.records) S.rows hs)) i t (length S.records) hs
     patched_wide = cut_all_lem e hs (holders_once S.rows e) r own ripe
 
-    patch_is : meshed P (split_patch S r) ≡ wider e (cut_all (length S.records) S.rows hs)
+    pub patch_is : meshed P (split_patch S r) ≡ wider e (cut_all (length S.records) S.rows hs)
     unfolding split_patch
     patch_is = λ j. record { points = points_next P S y.based (record_for e) j; records = S.records ++ (record_for e ∷ []); rows = cut_all (length S.records) S.rows hs }
 
@@ -118,7 +115,7 @@ module _ {P : List Point} {i t : ℕ} {S : Skeleton} (y : Ready P i t S) (few : 
 
     -- ---- no leaf holds both parents of a midpoint
 
-    abbrev n : Mesh
+    abbrev pub n : Mesh
     n = wider e (cut_all (length S.records) S.rows hs)
 
     -- what a child holds of older vertices its parent holds
@@ -146,31 +143,13 @@ module _ {P : List Point} {i t : ℕ} {S : Skeleton} (y : Ready P i t S) (few : 
     kept_corners q h = ap corners_of (patched_wide.grows.row q h)
 
     -- a leaf and an old midpoint, a leaf and the new one
-    old_apart : (q v : ℕ) → i ≤ v → v < length S.records → Remains m hs q ⊎ Born m n (length S.records) hs q → Holds 3 (corners_of (row_of n q)) (record_of m v).first → Holds 3 (corners_of (row_of n q)) (record_of m v).second → ⊥
+    pub old_apart : (q v : ℕ) → i ≤ v → v < length S.records → Remains m hs q ⊎ Born m n (length S.records) hs q → Holds 3 (corners_of (row_of n q)) (record_of m v).first → Holds 3 (corners_of (row_of n q)) (record_of m v).second → ⊥
     old_apart q v h l (inl w) a b = y.conforming.leaf q v w.there w.leaf h l (rw (kept_corners q w.there) at a) (rw (kept_corners q w.there) at b)
     old_apart q v h l (inr w) a b =
         let p = y.grown.midpoint v h l in
         let z = ripe w.parent w.listed in
         y.conforming.leaf w.parent v z.there z.leaf h l (older_held q (record_of m v).first w (omega (arith, p.rising, p.older)) a) (older_held q (record_of m v).second w (omega (arith, p.older)) b)
 
-    new_apart : (q : ℕ) → Remains m hs q ⊎ Born m n (length S.records) hs q → Holds 3 (corners_of (row_of n q)) e.small → Holds 3 (corners_of (row_of n q)) e.large → ⊥
+    pub new_apart : (q : ℕ) → Remains m hs q ⊎ Born m n (length S.records) hs q → Holds 3 (corners_of (row_of n q)) e.small → Holds 3 (corners_of (row_of n q)) e.large → ⊥
     new_apart q (inl w) a b = w.other (holders_has S.rows e q (record { there = w.there; holding = record { leaf = w.leaf; small = rw (kept_corners q w.there) at a; large = rw (kept_corners q w.there) at b } }))
     new_apart q (inr w) a b = child_misses q w a b
-
-    wide_conforming : Conforming n i
-    wide_conforming = record { leaf = λ q v h l k j a b. go q v (patched_wide.leaves q h l) k j a b (le_or_lt (length S.records) v) }
-      where
-        go : (q v : ℕ) → Remains m hs q ⊎ Born m n (length S.records) hs q → i ≤ v → v < vertices n → Holds 3 (corners_of (row_of n q)) (record_of n v).first → Holds 3 (corners_of (row_of n q)) (record_of n v).second
-            → (length S.records ≤ v) ⊎ (v < length S.records) → ⊥
-        go q v w k j a b (inr l) = let same = get_or-append S.records (record_for e ∷ []) no_record v l in old_apart q v k l w (rw same at a) (rw same at b)
-        go q v w k j a b (inl l) =
-            let last : v ≡ length S.records = omega (arith, length-append S.records (record_for e ∷ []), j) in
-            let same = ap (λ (u : ℕ). get_or (S.records ++ (record_for e ∷ [])) u no_record) last ∙ append_first S.records (length S.records) (record_for e) no_record [] refl in
-            new_apart q w (rw same at a) (rw same at b)
-
-    pub patch_ready : Ready P i t (split_patch S r)
-    patch_ready = record {
-      based = rw patch_records (omega (arith, y.based, length-append S.records (record_for e ∷ [])));
-      grown = patch_patched.grown;
-      conforming = rw patch_is wide_conforming;
-    }

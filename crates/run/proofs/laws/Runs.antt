@@ -23,7 +23,8 @@ use Rattle.run.proofs.laws.Edge.{Both, own_both, edge_shallow, edge_falls, edge_
 use Rattle.run.proofs.laws.Grows.{Grows, grows_on}
 use Rattle.run.proofs.laws.Needs.{Inside, held_forced}
 use Rattle.run.proofs.laws.Patched.{Split, Patched}
-use Rattle.run.proofs.laws.Patch.{patch_patched, patch_ready}
+use Rattle.run.proofs.laws.Patch.{patch_patched}
+use Rattle.run.proofs.laws.PatchReady.{patch_ready}
 
 pub record Refined (P : List Point) (i t : ℕ) (S S' : Skeleton) (r : ℕ) (Z : Element → Type 0) : Type 0 where
   pub ready : Ready P i t S'

@@ -20,7 +20,7 @@ use Rattle.run.specs.Skeleton.{Skeleton}
 use Rattle.run.specs.Ready.{Ready}
 use Rattle.run.specs.Run.{RunAll}
 use Rattle.run.proofs.laws.Grows.{Grows, grows_same, grows_on}
-use Rattle.run.proofs.laws.Goals.{Inside, split_later, AllMarkable}
+use Rattle.run.proofs.laws.Needs.{Inside, split_later, AllMarkable}
 use Rattle.run.proofs.laws.Marks.{Finished, all_records, run_all}
 use Rattle.salvage_theory.specs.Kept.{Intact, Kept, KeptIn}
 use Rattle.salvage_theory.specs.Rebuild.{Salvaged, opened, initials, mesh_from, find, Rebuilt, start, passed, refined, KeptDeep}

@@ -20,7 +20,7 @@ use Rattle.sound.proofs.laws.Elements.{root_element, child_element}
 use Rattle.sound.proofs.laws.Halves.{half}
 use Rattle.sound.proofs.laws.Splits.{splits_closed}
 use Rattle.run.specs.Skeleton.{Skeleton}
-use Rattle.run.proofs.laws.Goals.{split_shallow}
+use Rattle.run.proofs.laws.Needs.{split_shallow}
 use Rattle.salvage_theory.specs.Kept.{Intact, Follows, Reached, root, child, KeptIn, Listed, ListedBelow, none, passed}
 use Rattle.salvage_theory.specs.Rebuild.{Salvaged, mesh_from, Rebuilt, KeptDeep}
 use Rattle.salvage_theory.proofs.laws.Names.{kept_there, one_element}

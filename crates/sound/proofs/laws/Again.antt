@@ -14,7 +14,7 @@ use Rattle.tables.specs.Mesh.{up_to, flat}
 use Rattle.tables.proofs.laws.View.{up_to_at, flat_up_to}
 use Rattle.tables.proofs.laws.Rows.{points}
 use Rattle.intake.specs.Cells.{Cells}
-use Rattle.intake.specs.Causes.{vertex, has}
+use Rattle.intake.specs.Causes.{has}
 use Rattle.opening.specs.Order.{sorted, given, root_of}
 use Rattle.opening.proofs.laws.Sorted.{sorted_of, sorted_has}
 use Rattle.sound.specs.Sound.{elements_of}

@@ -1,5 +1,5 @@
 -- Meshes that begin alike: opening their initial vertices and roots afresh says the same of both, and they have the same forest and colours.
-use mathlib.Core.Path.{◌≡◌, refl, sym, ap, ◌∙◌, fun_ext}
+use mathlib.Core.Path.{◌≡◌, sym, ap, ◌∙◌, fun_ext}
 use mathlib.Core.List.{List, map}
 use Prim.Native.Nat.{ℕ}
 use lib.ListN.{get_or, take, get_or-map}

@@ -1,10 +1,8 @@
 -- There is one way to stand four vertices in the order of their colours, so the row of an element does not depend on the order of its numbers either.
 use mathlib.Core.Path.{◌≡◌, refl, sym, ap, ◌∙◌}
 use mathlib.Core.Bool.{true}
-use mathlib.Core.List.{List}
-use Prim.Native.Nat.{ℕ, ◌/◌, ◌≤◌, ◌<◌}
+use Prim.Native.Nat.{ℕ, ◌≤◌, ◌<◌}
 use native.Mathlib.Omega.{arith}
-use lib.ListN.{length}
 use Rattle.split.specs.Split.{three, number, Corners, corners, at, Holds}
 use Rattle.split.specs.Row.{root}
 use Rattle.split.proofs.laws.Places.{Against, less, equal, more, against}
@@ -55,10 +53,10 @@ module _ {f : ℕ → ℕ} {w : Corners ℕ} (c : Climbs f w) where
 
 -- the places at which w has the vertices of u rise from 0 to 3, so each is its own
 climbs_once : {f : ℕ → ℕ} {u w : Corners ℕ} → Climbs f u → Climbs f w → ((x : ℕ) → Holds 3 u x → Holds 3 w x) → u ≡ w
-climbs_once {f} {u} {w} c d h = go (in-w 0 (omega arith)) (in-w 1 (omega arith)) (in-w 2 (omega arith)) (in-w 3 (omega arith))
+climbs_once {f} {u} {w} c d h = go (in_w 0 (omega arith)) (in_w 1 (omega arith)) (in_w 2 (omega arith)) (in_w 3 (omega arith))
   where
-    in-w : (p : ℕ) → p ≤ 3 → Holds 3 w (at u p)
-    in-w p l = h (at u p) (record { place = p; inside = l; is = refl })
+    in_w : (p : ℕ) → p ≤ 3 → Holds 3 w (at u p)
+    in_w p l = h (at u p) (record { place = p; inside = l; is = refl })
 
     rise : {x y : ℕ} (i : Holds 3 w x) (j : Holds 3 w y) → f x < f y → i.place < j.place
     rise i j l = climbs_back d i.place j.place (omega arith) (omega arith) (rw (i.is, j.is) l)

@@ -1,16 +1,14 @@
 -- Clause 3 is what a whole call of opening says (01, "Sound tables"): of tests 1 and 2 only that there is a root does not follow from clauses 1 and 2.
-use mathlib.Core.Path.{◌≡◌, refl, sym, ap, ◌∙◌}
+use mathlib.Core.Path.{◌≡◌, refl, ◌∙◌}
 use mathlib.Core.Bool.{false}
 use mathlib.Core.List.{List}
 use mathlib.Core.Logic.{◌↔◌}
 use Prim.Native.Nat.{ℕ, ◌+◌, ◌*◌, ◌/◌, ◌%◌, ◌≤◌, ◌<◌}
-use native.Mathlib.Nat.{add-zero}
 use native.Mathlib.Omega.{arith}
 use borrow.Author.Tests.{eq-eqb, ne_eqb, le-ltb}
 use lib.ListN.{length, get_or, take}
 use lib.Seq.{length-take-le}
 use lib.Ieee.{Float}
-use Rattle.split.specs.declared.row.Row.{Row}
 use Rattle.split.specs.Split.{at}
 use Rattle.split.specs.Row.{corners_of}
 use Rattle.tables.specs.declared.layout.Counts.{Counts}
@@ -19,11 +17,11 @@ use Rattle.tables.specs.Mesh.{Lent, Mesh, mesh_of}
 use Rattle.tables.proofs.laws.View.{length_flat, mesh_points}
 use Rattle.intake.specs.Cells.{quads}
 use Rattle.intake.specs.Causes.{wrong_input, wrong_lent, has_no_room}
-use Rattle.sound.specs.Sound.{rows, given_points, root_cells, Afresh, Sound}
+use Rattle.sound.specs.Sound.{given_points, root_cells, Afresh, Sound}
 use Rattle.sound.specs.Whole.{vertex_cells, given_elements, OpensAfresh, Moderate}
 use Rattle.sound.proofs.laws.Searches.{each_of_four}
 use Rattle.sound.proofs.laws.Flat.{flat_at}
-use Rattle.sound.proofs.laws.Tested.{Allowed, allowed, allowed_passes, measured, tested, tested_passes}
+use Rattle.sound.proofs.laws.Tested.{allowed, allowed_passes, measured, tested, tested_passes}
 use Rattle.sound.proofs.laws.Views.{Views, views_back, views_tested, views_records, views_rows}
 use Rattle.sound.proofs.laws.Laid.{mesh_rows, mesh_vertices}
 

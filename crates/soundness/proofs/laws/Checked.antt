@@ -100,7 +100,7 @@ module _ {m : Mesh} {i t : ℕ} where
       → ((u : ℕ) → i ≤ u → u < vertices m → record_of m u ≡ record_of m v → u ≡ v) → point_of m v ≡ between (point_of m (record_of m v).first) (point_of m (record_of m v).second) → Midpoint m i v
   midpoint_made children v k made rising older only point =
       let d = children k made.past made.there in
-      let at-v : d.vertex ≡ v = sym (middle_vertex m d) ∙ made.is in
+      let at_v : d.vertex ≡ v = sym (middle_vertex m d) ∙ made.is in
       record {
         rising = rising;
         older = older;
@@ -108,7 +108,7 @@ module _ {m : Mesh} {i t : ℕ} where
         row = (row_of m k).parent;
         there = omega (arith, d.older, made.there);
         split = d.split;
-        edge = rw at-v at d.middle.ends;
+        edge = rw at_v at d.middle.ends;
         point = point;
       }
 
@@ -182,9 +182,9 @@ module _ (p : List Float) (r w : List ℕ) (c : Counts) where
       leaf q v h z k l a b =
           let x = count_rows h in
           let y = count_vertices l in
-          let at-q = row_is p r w c q x in
-          let at-v = record_is p r w c v y in
-          (whole q x).leaf (rw at-q at z) v k y (rw (at-q, at-v) at a) (rw (at-q, at-v) at b)
+          let at_q = row_is p r w c q x in
+          let at_v = record_is p r w c v y in
+          (whole q x).leaf (rw at_q at z) v k y (rw (at_q, at_v) at a) (rw (at_q, at_v) at b)
 
   -- ---- a leading run ends where the mesh is parted
 
@@ -298,6 +298,6 @@ module _ {p : List Float} {r w : List ℕ} {c : Counts} {i t : ℕ} where
     where
       leaf : (row_at w q).child ≡ 0 → (v : ℕ) → i ≤ v → v < c.vertices → Holds 3 (corners_of (row_at w q)) (record_at r v).first → Holds 3 (corners_of (row_at w q)) (record_at r v).second → ⊥
       leaf z v h l a b =
-          let at-q = row_is p r w c q k in
-          let at-v = record_is p r w c v l in
-          s.conforming.leaf q v (have_rows p r w c k) (rw at-q z) (rw (runs_of s ini roo).0 h) (have_vertices p r w c l) (rw (at-q, at-v) a) (rw (at-q, at-v) b)
+          let at_q = row_is p r w c q k in
+          let at_v = record_is p r w c v l in
+          s.conforming.leaf q v (have_rows p r w c k) (rw at_q z) (rw (runs_of s ini roo).0 h) (have_vertices p r w c l) (rw (at_q, at_v) a) (rw (at_q, at_v) b)

@@ -1,12 +1,11 @@
 -- The index of pairs: the walk along the places of one key, and the pairs entered one after the other.
-use mathlib.Core.Path.{◌≡◌, refl, sym, ap, ◌∙◌}
+use mathlib.Core.Path.{◌≡◌, refl, sym, ◌∙◌}
 use mathlib.Core.Bool.{Bool, true, false, not, true≢false}
 use mathlib.Core.List.{List}
 use Prim.Native.Nat.{ℕ, ◌+◌, ◌*◌, ◌%◌, ◌-◌, ◌≤◌, ◌<◌}
 use native.Mathlib.Nat.{add-sub_of_le}
 use native.Mathlib.Omega.{arith}
-use lib.ListN.{length, get_or, get_or-replicate}
-use lib.Seq.{get_or-take}
+use lib.ListN.{length, get_or}
 use borrow.Author.Tests.{not-false}
 use Rattle.chain.specs.Chain.{Indexed, pushed}
 use Rattle.chain.proofs.laws.Index.{indexed_none, indexed_push_one}

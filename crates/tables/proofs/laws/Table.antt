@@ -59,10 +59,10 @@ module _ {A B : Type 0} {w : ℕ} {cells : A → List B} {from : List B → ℕ 
 
   module _ (l : List B) (k : ℕ) (x : A) (h : k < length l / w) where
     pub at_put : at (put l k x) k ≡ x
-    at_put = cells_apart (at (put l k x) k) x (cells_at (put l k x) k (rw (length_put l k x) h) ∙ in-it)
+    at_put = cells_apart (at (put l k x) k) x (cells_at (put l k x) k (rw (length_put l k x) h) ∙ in_it)
       where
-        in-it : take w (drop (w * k) (put l k x)) ≡ cells x
-        in-it =
+        in_it : take w (drop (w * k) (put l k x)) ≡ cells x
+        in_it =
             rw (
               put_parts l k x h,
               append_assoc (take (w * k) l) (cells x) (drop (w * k + w) l),

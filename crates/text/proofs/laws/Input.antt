@@ -1,7 +1,7 @@
 -- Filling the lists, line by line.
 use mathlib.Core.Path.{◌≡◌, sym, ap, ◌∙◌}
 use mathlib.Core.List.{List, [], ◌∷◌, ◌++◌}
-use Prim.Native.Nat.{ℕ, suc, ◌+◌, ◌-◌, ◌≤◌, ◌<◌}
+use Prim.Native.Nat.{ℕ, suc, ◌+◌, ◌≤◌, ◌<◌}
 use native.Mathlib.Numerals.{add-one}
 use native.Mathlib.Omega.{arith}
 use borrow.Author.Tests.{lt-ltb, le-ltb, eq-eqb, ne_eqb}
@@ -13,7 +13,7 @@ use Rattle.fields.specs.declared.line.Line.TheVariants as line
 use Rattle.text.specs.declared.input.Used.{Used}
 use Rattle.text.specs.declared.input.Step.{Step}
 use Rattle.text.specs.declared.input.Step.TheVariants as step
-use Rattle.text.specs.Input.{Input, Taken, taken, fault, takes}
+use Rattle.text.specs.Input.{Input, taken, fault, takes}
 use Rattle.text.specs.Reading.{input_of, Fits, Sized, Takes, TakesVertex, TakesElement, TakesMark}
 
 -- ---- a line that is refused, a line that is taken

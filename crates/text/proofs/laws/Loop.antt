@@ -18,7 +18,7 @@ use Rattle.text.specs.declared.input.Turn.TheVariants as turn
 use Rattle.text.specs.declared.input.Read.TheVariants as read
 use Rattle.fields.specs.Field.{parts, before, stop_of}
 use Rattle.fields.specs.Line.{line_of, reported}
-use Rattle.text.specs.Input.{Input, Taken, taken, fault, takes, all, refused, read_from, read_all}
+use Rattle.text.specs.Input.{Input, taken, fault, takes, all, refused, read_from, read_all}
 use Rattle.text.specs.Reading.{input_of, Fits, Sized, Takes, Ready, Turns, Reads}
 use Rattle.fields.proofs.laws.Reports.{line_reported}
 use Rattle.fields.proofs.laws.Fields.{Inside, parts_some, parts_more, parts_last, parts_none, part, part_order, part_fits}
@@ -158,29 +158,29 @@ module _ {l : List ℕ} {c : List Float} {e m : List ℕ} {u : Used} {at k : ℕ
 
       pub loop_fault : {n : ℕ} → t ≡ turn.Fault n → Reads l (read.Refused n (k + 1)) c' e' m'
       loop_fault {n} q = record {
-        reads = λ w z. absurd (no-reading w z);
+        reads = λ w z. absurd (no_reading w z);
         refuses = λ n' p z. x.same ∙ rw line_number at (y.faults n q) ∙ same_refusal z;
         sized = y.sized;
       }
         where
-          no-reading : (w : Used) → read.Refused n (k + 1) ≡ read.All w → ⊥
-          no-reading w z = let s : ◌≡◌ {A = ℕ} 0 1 = cc in omega (arith, s)
+          no_reading : (w : Used) → read.Refused n (k + 1) ≡ read.All w → ⊥
+          no_reading w z = let s : ◌≡◌ {A = ℕ} 0 1 = cc in omega (arith, s)
 
           same_refusal : {n' p : ℕ} → read.Refused n (k + 1) ≡ read.Refused n' p → refused n (suc k) ≡ refused n' p
           same_refusal z = let a = add-one k in cc
 
   pub loop_all : length l ≤ at → Reads l (read.All u) c e m
   loop_all h = record {
-    reads = λ w z. rw (← used-same z) (x.fits, whole);
-    refuses = λ n p z. absurd (no-refusal n p z);
+    reads = λ w z. rw (← used_same z) (x.fits, whole);
+    refuses = λ n p z. absurd (no_refusal n p z);
     sized = x.sized;
   }
     where
-      used-same : {w : Used} → read.All u ≡ read.All w → u ≡ w
-      used-same z = cc
+      used_same : {w : Used} → read.All u ≡ read.All w → u ≡ w
+      used_same z = cc
 
-      no-refusal : (n p : ℕ) → read.All u ≡ read.Refused n p → ⊥
-      no-refusal n p z = let s : ◌≡◌ {A = ℕ} 0 1 = cc in omega (arith, s)
+      no_refusal : (n p : ℕ) → read.All u ≡ read.Refused n p → ⊥
+      no_refusal n p z = let s : ◌≡◌ {A = ℕ} 0 1 = cc in omega (arith, s)
 
       whole : read_all l ≡ all (input_of c e m u)
       whole = let q : at ≡ length l = omega (arith, x.within, h) in x.same ∙ rw (q, drop-length l, parts_none 10) (read_none (input_of c e m u) (suc k))

@@ -1,23 +1,15 @@
 -- The root on an L line is the root of the leaf's element: a row's depth is how many steps to parents lead there, and no depth is above 60.
-use mathlib.Core.Path.{◌≡◌, ap, ◌∙◌}
+use mathlib.Core.Path.{◌≡◌, ◌∙◌}
 use mathlib.Core.List.{List, ◌++◌, map}
-use mathlib.Core.Logic.{inl, inr}
-use Prim.Native.Nat.{ℕ, zero, suc, ◌/◌, ◌≤◌, ◌<◌}
+use Prim.Native.Nat.{ℕ, ◌/◌, ◌<◌}
 use native.Mathlib.Omega.{arith}
 use lib.ListN.{length, get_or}
-use Rattle.split.specs.declared.row.Row.{Row}
-use Rattle.split.proofs.laws.Places.{le_or_lt}
 use Rattle.tables.specs.declared.layout.Counts.{Counts}
 use Rattle.tables.specs.Layout.{row_at}
 use Rattle.tables.specs.Mesh.{Lent, mesh_of}
 use Rattle.tables.specs.Report.{done}
-use Rattle.tables.proofs.laws.View.{mesh_row}
 use Rattle.opening.specs.declared.answer.Opened.TheVariants as opened
-use Rattle.forest.specs.Element.{Element, depth}
-use Rattle.forest.specs.Shallow as forest
-use Rattle.sound.specs.Sound.{row_of, Sound}
-use Rattle.sound.specs.Forest.{element_of}
-use Rattle.sound.proofs.laws.Elements.{grown_root, grown_depth, root_element, child_element}
+use Rattle.sound.specs.Sound.{Sound}
 use Rattle.sound.proofs.laws.Placed.{placed}
 use Rattle.closure.specs.declared.answer.Refined.TheVariants as refined
 use Rattle.closure.specs.Refine.{Refines}
@@ -27,60 +19,23 @@ use Rattle.closure.proofs.laws.Taken.{sound_rows}
 use Rattle.leaves.specs.Listing.{level_in, listing}
 use Rattle.leaves.proofs.laws.Levels.{map_at}
 use Rattle.leaves.proofs.laws.Sound.{sound_listing}
-use Rattle.text.specs.Output.{leaf_line, p_lines, l_lines, root_from, root_of}
+use Rattle.text.specs.Output.{leaf_line, p_lines, l_lines, root_of}
 use Rattle.text.specs.Input.{Input}
 use Rattle.text.specs.Program.{headline, leaf_lines, rooted_line, rooted_lines, refined_text, Refining, opens, opened_tables}
 use Rattle.text.proofs.laws.Mesh.{texts_same}
 use Rattle.text.proofs.laws.Never.{opens_unsplit, opens_rows}
-use Rattle.text.proofs.laws.Putting.{root_here, root_over}
+use Rattle.text.proofs.laws.Reached.{parent_is}
+pub use Rattle.text.proofs.laws.Reached.{element, root_printed}
 
 module _ {t : Lent} {c : Counts} (s : Sound t c) where
-  -- the element of row k
-  abbrev pub element : ℕ → Element
-  element k = element_of (mesh_of t c) s.roots k
-
-  parent_is : (k : ℕ) → k < c.rows → (row_of (mesh_of t c) k).parent ≡ (row_at t.rows k).parent
-  parent_is k h = ap (λ (r : Row). r.parent) (mesh_row t c k h)
-
-  here : (f k : ℕ) → k < c.rows → k < s.roots → root_from t.rows f k ≡ forest.root_of (element k)
-  here f k h p = root_here t.rows f k (rw (← parent_is k h) (s.grown.parted.roots k p)) ∙ rw (root_element (mesh_of t c) s.roots k p)
-
-  module _ (k : ℕ) (h : k < c.rows) (p : s.roots ≤ k) where
-    l : k < length (mesh_of t c).rows
-    l = rw (sound_rows s) h
-
-    abbrev q : ℕ
-    q = (row_of (mesh_of t c) k).parent
-
-    parent_below : q < c.rows
-    parent_below = omega (arith, (s.grown.child k p l).older, h)
-
-    parent_depth : depth (element k) ≡ suc (depth (element q))
-    parent_depth = ap depth (child_element s.grown k p l) ∙ grown_depth (s.grown.child k p l).side (element q)
-
-    parent_root : forest.root_of (element k) ≡ forest.root_of (element q)
-    parent_root = ap forest.root_of (child_element s.grown k p l) ∙ grown_root (s.grown.child k p l).side (element q)
-
-    over_child : (f : ℕ) → root_from t.rows f q ≡ forest.root_of (element q) → root_from t.rows (suc f) k ≡ forest.root_of (element k)
-    over_child f e = root_over t.rows f k (rw (← parent_is k h) (s.grown.parted.children k p l)) ∙ rw (← parent_is k h, parent_root) e
-
-  -- as many steps as the element is deep
-  root_reached : (f k : ℕ) → k < c.rows → depth (element k) ≤ f → root_from t.rows f k ≡ forest.root_of (element k)
-  root_reached zero k h d = elim (le_or_lt s.roots k) [ inl p ↦ absurd (omega (arith, parent_depth k h p)) | inr p ↦ here zero k h p ]
-  root_reached (suc f) k h d = elim (le_or_lt s.roots k) [ inl p ↦ over_child k h p f (root_reached f (row_of (mesh_of t c) k).parent (parent_below k h p) (omega (arith, parent_depth k h p))) | inr p ↦ here (suc f) k h p ]
-
-  -- 60 steps reach the root
-  pub root_printed : (k : ℕ) → k < c.rows → root_of t.rows k ≡ forest.root_of (element k)
-  root_printed k h = let p = placed s.grown k (rw (sound_rows s) h) in root_reached 60 k h (omega (arith, p.depth, p.shallow))
-
   -- it is a root row: its own parent
   pub root_below : (k : ℕ) → k < c.rows → root_of t.rows k < s.roots
-  root_below k h = rw (root_printed k h) (placed s.grown k (rw (sound_rows s) h)).root
+  root_below k h = rw (root_printed s k h) (placed s.grown k (rw (sound_rows s) h)).root
 
   pub root_parent : (k : ℕ) → k < c.rows → (row_at t.rows (root_of t.rows k)).parent ≡ root_of t.rows k
   root_parent k h =
       let b = root_below k h in
-      rw (← parent_is (root_of t.rows k) (omega (arith, b, s.grown.parted.rows_in, sound_rows s))) (s.grown.parted.roots (root_of t.rows k) b)
+      rw (← parent_is s (root_of t.rows k) (omega (arith, b, s.grown.parted.rows_in, sound_rows s))) (s.grown.parted.roots (root_of t.rows k) b)
 
   -- ---- the L lines
 
@@ -96,7 +51,7 @@ module _ {t : Lent} {c : Counts} (s : Sound t c) where
   leaves_rooted =
       let W = (mesh_of t c).rows in
       texts_same (leaf_line t.rows (listing W) (map (level_in W) (listing W))) (λ j. rooted_line t c s.roots (leaf j)) (length (listing W))
-      (λ j h. rw (root_printed (leaf j) (leaf_below j h), map_at (level_in W) (listing W) j h))
+      (λ j h. rw (root_printed s (leaf j) (leaf_below j h), map_at (level_in W) (listing W) j h))
 
 -- what the program prints of an accepted call: its roots are the rows that opening made, one for each T line
 pub printed_rooted : (i : Input) {c d : Counts} {n : ℕ} {t' : Lent} → opens i ≡ opened.Done c → Refines (opened_tables i) c i.marks (refined.Done d n) t' → leaf_lines t' d ≡ rooted_lines t' d (length i.elements / 4)

@@ -1,0 +1,8 @@
+use Rattle.closure.proofs.laws.Tests.{other_tests}
+use Rattle.closure.proofs.gather.other.Goals as goal
+
+pub returns-then-e-a : goal.returns-then-e-a
+returns-then-e-a c = search other_tests
+
+pub returns : goal.returns
+returns c = search other_tests
