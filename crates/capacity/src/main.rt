@@ -1,42 +1,52 @@
 // A mesh near capacity: the Kuhn grid of 25 x 25 x 25 cubes, six elements each, opened and checked. Prints the counts, N, a checksum of colours and rows, and whether the tables are sound.
-use libc::STDOUT_FILENO;
+#![tactic(auto)]
+
 use opening::answer::Opened;
+use std::io;
 use tables::layout::Counts;
 
 mod grid;
 mod sum;
 
-fn word(text: &[u8], n: u64) {
-    io::write_all(STDOUT_FILENO, text);
-    io::print_decimal(STDOUT_FILENO, n);
-    io::write_all(STDOUT_FILENO, b"\n");
+fn word(rt: &impl Print, text: &str, n: u64) -> io::Result<()> {
+    println!(rt; "{text} {n}")
 }
 
-fn sound(yes: bool) {
+fn sound(rt: &impl Print, yes: bool) -> io::Result<()> {
     if yes {
-        io::write_all(STDOUT_FILENO, b"sound yes\n");
+        println!(rt; "sound yes")
     } else {
-        io::write_all(STDOUT_FILENO, b"sound no\n");
+        println!(rt; "sound no")
     }
 }
 
-fn report(points: &[f64], records: &[u32], rows: &[u32], c: Counts) {
-    word(b"vertices ", c.vertices as u64);
-    word(b"rows ", c.rows as u64);
-    word(b"N ", sum::largest_first(records));
-    word(b"colours ", sum::checksum(records));
-    word(b"elements ", sum::checksum(rows));
-    sound(soundness::check(points, records, rows, c));
+fn report(
+    rt: &impl Print,
+    points: &[f64],
+    records: &[u32],
+    rows: &[u32],
+    c: Counts,
+) -> io::Result<()> {
+    word(rt, "vertices", c.vertices as u64)?;
+    word(rt, "rows", c.rows as u64)?;
+    word(rt, "N", sum::largest_first(records))?;
+    word(rt, "colours", sum::checksum(records))?;
+    word(rt, "elements", sum::checksum(rows))?;
+    sound(rt, soundness::check(points, records, rows, c))
 }
 
-fn answer(r: Opened, points: &[f64], records: &[u32], rows: &[u32]) {
+fn answer(
+    rt: &impl Print,
+    r: Opened,
+    points: &[f64],
+    records: &[u32],
+    rows: &[u32],
+) -> io::Result<()> {
     match r {
-        Opened::Done(c) => {
-            report(points, records, rows, c);
-        }
+        Opened::Done(c) => report(rt, points, records, rows, c),
         Opened::Refused { number, place } => {
-            word(b"refused ", number as u64);
-            word(b"place ", place as u64);
+            word(rt, "refused", number as u64)?;
+            word(rt, "place", place as u64)
         }
     }
 }
@@ -51,14 +61,19 @@ fn fill(points: &mut [f64], records: &mut [u32], rows: &mut [u32]) -> Opened {
 }
 
 // The tables as arrays: where a slice is asked for, `main` must prove the length of a list written out, and so long a one exhausts the prover's stack.
-fn run(points: &mut [f64; 60000], records: &mut [u32; 40000], rows: &mut [u32; 760000]) {
+fn run(
+    rt: &impl Print,
+    points: &mut [f64; 60000],
+    records: &mut [u32; 40000],
+    rows: &mut [u32; 760000],
+) -> io::Result<()> {
     let r = fill(points, records, rows);
-    answer(r, points, records, rows);
+    answer(rt, r, points, records, rows)
 }
 
-fn main() {
+fn main(rt: HostRuntime) -> io::Result<()> {
     let mut points = [1.0f64; 60000];
     let mut records = [1u32; 40000];
     let mut rows = [1u32; 760000];
-    run(&mut points, &mut records, &mut rows);
+    run(&rt, &mut points, &mut records, &mut rows)
 }

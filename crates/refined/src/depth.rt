@@ -2,8 +2,8 @@
 ghost use Rattle.std.specs.Prelude.{◌≤◌};
 
 use crate::{cases, show};
-use libc::STDOUT_FILENO;
 use opening::answer::Opened;
+use std::io;
 use tables::layout::Counts;
 
 fn capped(n: usize) -> usize
@@ -71,15 +71,22 @@ fn first_leaf(rows: &[u32], n: usize) -> u32 {
 }
 
 // The marks on tables cut to what the mesh fills, so that no split has room.
-fn tight(points: &mut [f64], records: &mut [u32], rows: &mut [u32], c: Counts, marks: &[u32]) {
+fn tight(
+    rt: &impl Print,
+    points: &mut [f64],
+    records: &mut [u32],
+    rows: &mut [u32],
+    c: Counts,
+    marks: &[u32],
+) -> io::Result<()> {
     if points.len() / 3 < c.vertices {
-        return;
+        return Ok(());
     }
     if records.len() / 2 < c.vertices {
-        return;
+        return Ok(());
     }
     if rows.len() / 8 < c.rows {
-        return;
+        return Ok(());
     }
     let p = 3 * c.vertices;
     let v = 2 * c.vertices;
@@ -91,33 +98,45 @@ fn tight(points: &mut [f64], records: &mut [u32], rows: &mut [u32], c: Counts, m
         c,
         marks,
     );
-    show::answer(r);
+    show::answer(rt, r)
 }
 
-fn marked(points: &mut [f64], records: &mut [u32], rows: &mut [u32], c: Counts) {
-    show::number(c.vertices);
-    show::number(c.rows);
+fn marked(
+    rt: &impl Print,
+    points: &mut [f64],
+    records: &mut [u32],
+    rows: &mut [u32],
+    c: Counts,
+) -> io::Result<()> {
+    show::number(rt, c.vertices)?;
+    show::number(rt, c.rows)?;
     let deep = deepest(rows, c.rows, 61);
     let held = tables::row::read(rows, deep as usize);
-    show::number(held.depth as usize);
-    show::end_line();
-    show::answer(closure::refine(points, records, rows, c, &[deep]));
+    show::number(rt, held.depth as usize)?;
+    show::end_line(rt)?;
+    show::answer(rt, closure::refine(points, records, rows, c, &[deep]))?;
     let leaf = first_leaf(rows, c.rows);
-    tight(points, records, rows, c, &[leaf]);
-    tight(points, records, rows, c, &[leaf, deep]);
+    tight(rt, points, records, rows, c, &[leaf])?;
+    tight(rt, points, records, rows, c, &[leaf, deep])
 }
 
 // The deepest leaf that may be split, in the same mesh.
-fn spared(points: &mut [f64], records: &mut [u32], rows: &mut [u32], c: Counts) {
+fn spared(
+    rt: &impl Print,
+    points: &mut [f64],
+    records: &mut [u32],
+    rows: &mut [u32],
+    c: Counts,
+) -> io::Result<()> {
     let leaf = deepest(rows, c.rows, 60);
     let held = tables::row::read(rows, leaf as usize);
-    show::number(held.depth as usize);
-    show::end_line();
-    show::answer(closure::refine(points, records, rows, c, &[leaf]));
+    show::number(rt, held.depth as usize)?;
+    show::end_line(rt)?;
+    show::answer(rt, closure::refine(points, records, rows, c, &[leaf]))
 }
 
-pub fn run() {
-    io::write_all(STDOUT_FILENO, b"depth");
+pub fn run(rt: &impl Print) -> io::Result<()> {
+    print!(rt; "depth")?;
     let line = [0.5f64; 12];
     let mut points = [7.0f64; 1800];
     let mut records = [7u32; 1200];
@@ -125,7 +144,8 @@ pub fn run() {
     let r = opening::open(&line, &[0, 1, 2, 3], &mut points, &mut records, &mut rows);
     if let Opened::Done(c) = r {
         let d = dig(&mut points, &mut records, &mut rows, c);
-        marked(&mut points, &mut records, &mut rows, d);
-        spared(&mut points, &mut records, &mut rows, d);
+        marked(rt, &mut points, &mut records, &mut rows, d)?;
+        return spared(rt, &mut points, &mut records, &mut rows, d);
     }
+    Ok(())
 }

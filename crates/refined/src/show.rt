@@ -1,15 +1,14 @@
 // One line of output for an answer, a table, a shown element.
 use closure::answer::Refined;
 use leaves::answer::Listed;
-use libc::STDOUT_FILENO;
+use std::io;
 
-pub fn number(n: usize) {
-    io::write_all(STDOUT_FILENO, b" ");
-    io::print_decimal(STDOUT_FILENO, n as u64);
+pub fn number(rt: &impl Print, n: usize) -> io::Result<()> {
+    print!(rt; " {n}")
 }
 
-pub fn end_line() {
-    io::write_all(STDOUT_FILENO, b"\n");
+pub fn end_line(rt: &impl Print) -> io::Result<()> {
+    println!(rt)
 }
 
 fn wide(x: u32) -> usize {
@@ -17,73 +16,68 @@ fn wide(x: u32) -> usize {
 }
 
 // All numbers of a table on one line.
-pub fn table(t: &[u32]) {
-    let mut i = 0usize;
-    while i < t.len() {
-        number(wide(t[i]));
-        i += 1;
+pub fn table(rt: &impl Print, t: &[u32]) -> io::Result<()> {
+    for n in t {
+        number(rt, wide(*n))?;
     }
-    end_line();
+    end_line(rt)
 }
 
 // The bit pattern as 16 hex digits.
-fn coordinate(x: f64) {
-    io::write_all(STDOUT_FILENO, b" ");
-    io::print_hex(STDOUT_FILENO, fields::bits(x), 16);
+fn coordinate(rt: &impl Print, x: f64) -> io::Result<()> {
+    print!(rt; " {:016x}", fields::bits(x))
 }
 
 // All coordinates of a table on one line.
-pub fn points(t: &[f64]) {
-    let mut i = 0usize;
-    while i < t.len() {
-        coordinate(t[i]);
-        i += 1;
+pub fn points(rt: &impl Print, t: &[f64]) -> io::Result<()> {
+    for x in t {
+        coordinate(rt, *x)?;
     }
-    end_line();
+    end_line(rt)
 }
 
-pub fn sound(yes: bool) {
+pub fn sound(rt: &impl Print, yes: bool) -> io::Result<()> {
     if yes {
-        io::write_all(STDOUT_FILENO, b"sound yes\n");
+        println!(rt; "sound yes")
     } else {
-        io::write_all(STDOUT_FILENO, b"sound no\n");
+        println!(rt; "sound no")
     }
 }
 
 // The part of the table with the vertex numbers of a row.
-pub fn element(rows: &[u32], count: usize, row: usize) {
-    io::write_all(STDOUT_FILENO, b"element");
-    table(tables::show::element(rows, count, row));
+pub fn element(rt: &impl Print, rows: &[u32], count: usize, row: usize) -> io::Result<()> {
+    print!(rt; "element")?;
+    table(rt, tables::show::element(rows, count, row))
 }
 
-pub fn answer(r: Refined) {
+pub fn answer(rt: &impl Print, r: Refined) -> io::Result<()> {
     match r {
         Refined::Done { counts, splits } => {
-            io::write_all(STDOUT_FILENO, b"done");
-            number(counts.vertices);
-            number(counts.rows);
-            number(splits);
+            print!(rt; "done")?;
+            number(rt, counts.vertices)?;
+            number(rt, counts.rows)?;
+            number(rt, splits)?;
         }
         Refined::Refused { number: n, place } => {
-            io::write_all(STDOUT_FILENO, b"refused");
-            number(wide(n));
-            number(place);
+            print!(rt; "refused")?;
+            number(rt, wide(n))?;
+            number(rt, place)?;
         }
     }
-    end_line();
+    end_line(rt)
 }
 
-pub fn listed(r: Listed) {
-    io::write_all(STDOUT_FILENO, b"leaves");
+pub fn listed(rt: &impl Print, r: Listed) -> io::Result<()> {
+    print!(rt; "leaves")?;
     match r {
         Listed::Done(n) => {
-            number(n);
+            number(rt, n)?;
         }
         Listed::Refused { number: n, place } => {
-            io::write_all(STDOUT_FILENO, b" refused");
-            number(wide(n));
-            number(place);
+            print!(rt; " refused")?;
+            number(rt, wide(n))?;
+            number(rt, place)?;
         }
     }
-    end_line();
+    end_line(rt)
 }

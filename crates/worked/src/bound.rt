@@ -1,6 +1,6 @@
 // 2 ^ 1000, the largest coordinate that opening takes, and the number after it.
 
-#[derive(Drop)]
+#[derive(Clone, Copy)]
 pub struct Limit {
     pub last: f64,
     pub past: f64,

@@ -2,7 +2,7 @@
 ghost use Rattle.std.specs.Prelude.{◌+◌, ◌≤◌, ◌<◌};
 
 use crate::{opens, show};
-use libc::STDOUT_FILENO;
+use std::io;
 
 fn put(table: &mut [u32], i: usize, x: u32) {
     if i < table.len() {
@@ -46,21 +46,24 @@ fn pairs(table: &mut [u32]) {
 }
 
 // Opens into tables that hold 7 everywhere; shows the records of the 65 vertices, the first row and the last two.
-fn open(coordinates: &[f64], elements: &[u32]) {
+fn open(rt: &impl Print, coordinates: &[f64], elements: &[u32]) -> io::Result<()> {
     let mut points = [7.0f64; 12675];
     let mut records = [7u32; 8450];
     let mut rows = [7u32; 16640];
-    opens::answer(opening::open(coordinates, elements, &mut points, &mut records, &mut rows));
-    show::table(&records[0..130]);
-    show::table(&rows[0..8]);
-    show::table(&rows[16624..16640]);
+    opens::answer(
+        rt,
+        opening::open(coordinates, elements, &mut points, &mut records, &mut rows),
+    )?;
+    show::table(rt, &records[0..130])?;
+    show::table(rt, &rows[0..8])?;
+    show::table(rt, &rows[16624..16640])
 }
 
-pub fn run() {
-    io::write_all(STDOUT_FILENO, b"colours\n");
+pub fn run(rt: &impl Print) -> io::Result<()> {
+    println!(rt; "colours")?;
     let line = [0.5f64; 12675];
     let mut elements = [0u32; 8320];
     pairs(&mut elements);
-    open(&line, &elements);
-    open(&line, &elements[0..8316]);
+    open(rt, &line, &elements)?;
+    open(rt, &line, &elements[0..8316])
 }

@@ -1,4 +1,6 @@
 // The worked cases of document 01 that are run, with the cases at the edge of each rule; the expected lines are in `stdout`.
+#![tactic(auto)]
+
 mod bound;
 mod checks;
 mod colours;
@@ -7,10 +9,12 @@ mod opens;
 mod show;
 mod splits;
 
-fn main() {
-    splits::run();
-    midpoints::run();
-    opens::run();
-    colours::run();
-    checks::run();
+use std::io;
+
+fn main(rt: HostRuntime) -> io::Result<()> {
+    splits::run(&rt)?;
+    midpoints::run(&rt)?;
+    opens::run(&rt)?;
+    colours::run(&rt)?;
+    checks::run(&rt)
 }

@@ -1,40 +1,40 @@
 // The midpoint rule on halves, subnormals, both zeros, the largest coordinate and what is not finite.
 use crate::bound::bound;
 use crate::show;
-use libc::STDOUT_FILENO;
 use split::point::Point;
+use std::io;
 
-fn line(x: f64, y: f64) {
+fn line(rt: &impl Print, x: f64, y: f64) -> io::Result<()> {
     let p = Point { x, y, z: 1.0 };
     let q = Point { x: y, y: x, z: 0.0 };
     let m = split::point::midpoint(p, q);
-    show::coordinate(m.x);
-    show::coordinate(m.y);
-    show::coordinate(m.z);
-    show::end_line();
+    show::coordinate(rt, m.x)?;
+    show::coordinate(rt, m.y)?;
+    show::coordinate(rt, m.z)?;
+    show::end_line(rt)
 }
 
 // The largest coordinate, and what lies past every number.
-fn far_out() {
+fn far_out(rt: &impl Print) -> io::Result<()> {
     let most = bound().last;
-    line(most, most);
-    line(most, -most);
-    line(most, 1.0);
+    line(rt, most, most)?;
+    line(rt, most, -most)?;
+    line(rt, most, 1.0)?;
     let infinite = most * most;
-    line(infinite, 0.0);
-    line(infinite, -infinite);
+    line(rt, infinite, 0.0)?;
+    line(rt, infinite, -infinite)
 }
 
-pub fn run() {
-    io::write_all(STDOUT_FILENO, b"midpoints\n");
-    line(0.0, 1.0);
-    line(0.5, 0.25);
-    line(0.1, 0.2);
-    line(-0.0, -0.0);
-    line(-0.0, 0.0);
-    line(1.0, -1.0);
-    line(5e-324, 5e-324);
-    line(5e-324, 0.0);
-    line(1.5e-323, 0.0);
-    far_out();
+pub fn run(rt: &impl Print) -> io::Result<()> {
+    println!(rt; "midpoints")?;
+    line(rt, 0.0, 1.0)?;
+    line(rt, 0.5, 0.25)?;
+    line(rt, 0.1, 0.2)?;
+    line(rt, -0.0, -0.0)?;
+    line(rt, -0.0, 0.0)?;
+    line(rt, 1.0, -1.0)?;
+    line(rt, 5e-324, 5e-324)?;
+    line(rt, 5e-324, 0.0)?;
+    line(rt, 1.5e-323, 0.0)?;
+    far_out(rt)
 }

@@ -1,73 +1,76 @@
 // W1, W5 and W7 of document 01 as opened, and a refusal by each number that opening gives but 8 (`colours`).
 use crate::bound::bound;
 use crate::show;
-use libc::STDOUT_FILENO;
 use opening::answer::Opened;
+use std::io;
 
-pub fn answer(r: Opened) {
+pub fn answer(rt: &impl Print, r: Opened) -> io::Result<()> {
     match r {
         Opened::Done(c) => {
-            io::write_all(STDOUT_FILENO, b"done");
-            show::count(c.vertices);
-            show::count(c.rows);
+            print!(rt; "done")?;
+            show::count(rt, c.vertices)?;
+            show::count(rt, c.rows)?;
         }
         Opened::Refused { number, place } => {
-            io::write_all(STDOUT_FILENO, b"refused");
-            show::number(number);
-            show::count(place);
+            print!(rt; "refused")?;
+            show::number(rt, number)?;
+            show::count(rt, place)?;
         }
     }
-    show::end_line();
+    show::end_line(rt)
 }
 
 // Opens the first vertices of a line of points into tables for six vertices and four rows that hold 7 everywhere.
-fn open(coordinates: &[f64], elements: &[u32]) {
+fn open(rt: &impl Print, coordinates: &[f64], elements: &[u32]) -> io::Result<()> {
     let mut points = [7.0f64; 18];
     let mut records = [7u32; 12];
     let mut rows = [7u32; 32];
-    answer(opening::open(coordinates, elements, &mut points, &mut records, &mut rows));
-    show::table(&records);
-    show::table(&rows);
+    answer(
+        rt,
+        opening::open(coordinates, elements, &mut points, &mut records, &mut rows),
+    )?;
+    show::table(rt, &records)?;
+    show::table(rt, &rows)
 }
 
-fn accepted() {
+fn accepted(rt: &impl Print) -> io::Result<()> {
     let line = [0.5f64; 18];
-    open(&line[0..12], &[0, 1, 2, 3]);
-    open(&line[0..15], &[0, 1, 2, 3, 1, 2, 3, 4]);
-    open(&line[0..15], &[0, 1, 2, 3, 0, 1, 3, 4, 0, 1, 2, 4]);
-    open(&line, &[0, 1, 2, 3]);
+    open(rt, &line[0..12], &[0, 1, 2, 3])?;
+    open(rt, &line[0..15], &[0, 1, 2, 3, 1, 2, 3, 4])?;
+    open(rt, &line[0..15], &[0, 1, 2, 3, 0, 1, 3, 4, 0, 1, 2, 4])?;
+    open(rt, &line, &[0, 1, 2, 3])
 }
 
-fn refused() {
+fn refused(rt: &impl Print) -> io::Result<()> {
     let line = [0.5f64; 21];
-    open(&line[0..13], &[0, 1, 2, 3]);
-    open(&line[0..12], &[0, 1, 2]);
-    open(&line[0..12], &[]);
-    open(&line, &[0, 1, 2, 3]);
-    open(&line[0..12], &[0, 1, 1, 2, 0, 1, 2, 9]);
-    open(&line[0..12], &[0, 1, 2, 3, 0, 1, 1, 2]);
-    open(&line[0..12], &[0, 1, 2, 3, 3, 1, 0, 2]);
-    open(&line[0..18], &[0, 1, 2, 3, 0, 1, 2, 4, 0, 1, 2, 5]);
+    open(rt, &line[0..13], &[0, 1, 2, 3])?;
+    open(rt, &line[0..12], &[0, 1, 2])?;
+    open(rt, &line[0..12], &[])?;
+    open(rt, &line, &[0, 1, 2, 3])?;
+    open(rt, &line[0..12], &[0, 1, 1, 2, 0, 1, 2, 9])?;
+    open(rt, &line[0..12], &[0, 1, 2, 3, 0, 1, 1, 2])?;
+    open(rt, &line[0..12], &[0, 1, 2, 3, 3, 1, 0, 2])?;
+    open(rt, &line[0..18], &[0, 1, 2, 3, 0, 1, 2, 4, 0, 1, 2, 5])
 }
 
 // The largest coordinate of either sign, and what opening does not take.
-fn limits() {
+fn limits(rt: &impl Print) -> io::Result<()> {
     let b = bound();
     let mut line = [0.0f64; 12];
     line[5] = b.last;
     line[9] = -b.last;
-    open(&line, &[0, 1, 2, 3]);
+    open(rt, &line, &[0, 1, 2, 3])?;
     line[7] = b.past;
-    open(&line, &[0, 1, 2, 3]);
+    open(rt, &line, &[0, 1, 2, 3])?;
     line[3] = b.last * b.last;
-    open(&line, &[0, 1, 2, 3]);
+    open(rt, &line, &[0, 1, 2, 3])?;
     line[2] = line[3] - line[3];
-    open(&line, &[0, 1, 2, 3]);
+    open(rt, &line, &[0, 1, 2, 3])
 }
 
-pub fn run() {
-    io::write_all(STDOUT_FILENO, b"opening\n");
-    accepted();
-    refused();
-    limits();
+pub fn run(rt: &impl Print) -> io::Result<()> {
+    println!(rt; "opening")?;
+    accepted(rt)?;
+    refused(rt)?;
+    limits(rt)
 }

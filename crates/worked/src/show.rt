@@ -1,58 +1,52 @@
 // One line of output for a row, an edge, a coordinate.
-use libc::STDOUT_FILENO;
 use split::row::{Ends, Row};
+use std::io;
 
-pub fn number(n: u32) {
-    io::write_all(STDOUT_FILENO, b" ");
-    io::print_decimal(STDOUT_FILENO, n as u64);
+pub fn number(rt: &impl Print, n: u32) -> io::Result<()> {
+    print!(rt; " {n}")
 }
 
-pub fn count(n: usize) {
-    io::write_all(STDOUT_FILENO, b" ");
-    io::print_decimal(STDOUT_FILENO, n as u64);
+pub fn count(rt: &impl Print, n: usize) -> io::Result<()> {
+    print!(rt; " {n}")
 }
 
 // All numbers of a table on one line.
-pub fn table(t: &[u32]) {
-    let mut i = 0usize;
-    while i < t.len() {
-        number(t[i]);
-        i += 1;
+pub fn table(rt: &impl Print, t: &[u32]) -> io::Result<()> {
+    for n in t {
+        number(rt, *n)?;
     }
-    end_line();
+    end_line(rt)
 }
 
-pub fn end_line() {
-    io::write_all(STDOUT_FILENO, b"\n");
+pub fn end_line(rt: &impl Print) -> io::Result<()> {
+    println!(rt)
 }
 
-pub fn edge(e: Ends) {
-    io::write_all(STDOUT_FILENO, b"edge");
-    number(e.small);
-    number(e.large);
-    end_line();
+pub fn edge(rt: &impl Print, e: Ends) -> io::Result<()> {
+    print!(rt; "edge")?;
+    number(rt, e.small)?;
+    number(rt, e.large)?;
+    end_line(rt)
 }
 
 // v0 to v3, tag, parent, child, depth
-pub fn row(r: Row) {
-    io::write_all(STDOUT_FILENO, b"row");
-    number(r.v0);
-    number(r.v1);
-    number(r.v2);
-    number(r.v3);
-    number(r.tag);
-    number(r.parent);
-    number(r.child);
-    number(r.depth);
-    end_line();
+pub fn row(rt: &impl Print, r: Row) -> io::Result<()> {
+    print!(rt; "row")?;
+    number(rt, r.v0)?;
+    number(rt, r.v1)?;
+    number(rt, r.v2)?;
+    number(rt, r.v3)?;
+    number(rt, r.tag)?;
+    number(rt, r.parent)?;
+    number(rt, r.child)?;
+    number(rt, r.depth)?;
+    end_line(rt)
 }
 
 // The bit pattern, which a NaN does not have.
-pub fn coordinate(x: f64) {
+pub fn coordinate(rt: &impl Print, x: f64) -> io::Result<()> {
     if x != x {
-        io::write_all(STDOUT_FILENO, b" nan");
-        return;
+        return print!(rt; " nan");
     }
-    io::write_all(STDOUT_FILENO, b" ");
-    io::print_hex(STDOUT_FILENO, f64::to_bits(x), 16);
+    print!(rt; " {:016x}", f64::to_bits(x))
 }
