@@ -36,10 +36,10 @@ fn vertex(x: Value, y: Value, z: Value, place: usize) -> Line
 }
 
 fn element(a: Value, b: Value, c: Value, d: Value, place: usize) -> Line
-    requires small { Small a }
-    requires small_2 { Small b }
-    requires small_3 { Small c }
-    requires small_4 { Small d }
+    requires a_small { Small a }
+    requires b_small { Small b }
+    requires c_small { Small c }
+    requires d_small { Small d }
     ensures { result ≡ element_of a b c d place }
 {
     let Value::Is(i) = a else {
