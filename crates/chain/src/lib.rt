@@ -5,6 +5,7 @@
 ghost use Rattle.std.specs.Prelude.{◌≡◌, length, set, replicate};
 ghost use Rattle.chain.specs.Chain.{pushed};
 
+// A head or a link is a place plus one, and 0 where there is none: it lies in a table of numbers that is lent, so it is no Option.
 // Appends place i with its key. What does not fit changes nothing.
 pub fn push(index: &mut [u32], base: usize, i: usize, key: usize)
     ensures { index.new ≡ pushed index.old base i key }
@@ -25,7 +26,7 @@ pub fn push(index: &mut [u32], base: usize, i: usize, key: usize)
     index[key] = (i + 1) as u32;
 }
 
-// A number of a table as an index or a key.
+// A number of a table as an index or a key: std has no `From` between the two.
 pub fn wide(x: u32) -> usize
     ensures { result ≡ x }
 {
@@ -45,10 +46,5 @@ pub fn put(table: &mut [u32], i: usize, x: u32)
 pub fn clear(table: &mut [u32])
     ensures { table.new ≡ replicate (length table.old) 0 }
 {
-    let end = table.len();
-    let mut i = 0usize;
-    while i < end {
-        table[i] = 0;
-        i += 1;
-    }
+    table.fill(0);
 }

@@ -10,7 +10,7 @@ refine_determined κs a r r' s s' p q = (one_outcome p q).0
 
 -- nothing of an answer is lost in its report, whichever tables and marks the two calls had
 pub refine_reported : (κs κs' : _) (a a' : _) (r r' : _) (s s' : _) → refining.Learnt κs a r s → refining.Learnt κs' a' r' s' → reported r ≡ reported r' → r ≡ r'
-refine_reported κs κs' a a' r r' s s' p q e = report_tells r r' p q e
+refine_reported κs κs' a a' r r' s s' p q e = report_tells r r' e
 
 -- the lent tables are the first three parameters
 pub refine_points_determined : (κs : _) (a : _) (r r' : _) (s s' : _) → refining.Learnt κs a r s → refining.Learnt κs a r' s' → s.0.now ≡ s'.0.now

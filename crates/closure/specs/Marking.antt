@@ -1,5 +1,6 @@
 -- The marks of a call on the tables. Nothing here is promised to callers.
-use Rattle.std.specs.Prelude.{◌≡◌, List, ◌∷◌, ℕ, ◌≤◌, ◌<◌, length, get_or, drop}
+use Rattle.std.specs.Prelude.{◌≡◌, List, ◌∷◌, ℕ, ◌≤◌, ◌<◌, length, get_or, drop, Result}
+use Rattle.std.specs.Result.{ForOk, ForErr}
 use Rattle.split.specs.declared.point.Point.{Point}
 use Rattle.tables.specs.declared.layout.Counts.{Counts}
 use Rattle.tables.specs.declared.layout.Size.{Size}
@@ -7,8 +8,7 @@ use Rattle.tables.specs.Layout.{row_at}
 use Rattle.run.specs.Skeleton.{Skeleton}
 use Rattle.run.specs.Ready.{Ready, Reach}
 use Rattle.run.specs.Run.{RunAll, StuckAll}
-use Rattle.closure.specs.declared.step.Step.{Step}
-use Rattle.closure.specs.declared.step.Step.TheVariants.{Done, Full}
+use Rattle.closure.specs.declared.step.Full.{Full}
 use Rattle.closure.specs.State.{seen}
 use Rattle.closure.specs.Refining.{Tables}
 
@@ -46,9 +46,9 @@ pub record Halted (S : Skeleton) (q : ℕ) (room : Size) (r w s : List ℕ) (d :
   pub reach : Reach S (seen r w d)
   pub tables : Tables r w s d room
 
-pub record Passes (r w : List ℕ) (c : Counts) (room : Size) (q : ℕ) (o : Step) (r' w' s' : List ℕ) : Type 0 where
-  pub done : (d : Counts) → o ≡ Done d → Passed (seen r w c) q room r' w' s' d
-  pub full : (d : Counts) → o ≡ Full d → Halted (seen r w c) q room r' w' s' d
+pub record Passes (r w : List ℕ) (c : Counts) (room : Size) (q : ℕ) (o : Result Counts Full) (r' w' s' : List ℕ) : Type 0 where
+  pub done : ForOk o (λ d. Passed (seen r w c) q room r' w' s' d)
+  pub full : ForErr o (λ e. Halted (seen r w c) q room r' w' s' e.counts)
 
 -- all marks are done, or there was no room for them
 pub record Ended (S : Skeleton) (marks : List ℕ) (room : Size) (r w s : List ℕ) (d : Counts) : Type 0 where
@@ -61,11 +61,11 @@ pub record Failed (S : Skeleton) (marks : List ℕ) (room : Size) (r w s : List 
   pub reach : Reach S (seen r w d)
   pub tables : Tables r w s d room
 
-pub record Marks (r w : List ℕ) (c : Counts) (room : Size) (marks : List ℕ) (o : Step) (r' w' s' : List ℕ) : Type 0 where
+pub record Marks (r w : List ℕ) (c : Counts) (room : Size) (marks : List ℕ) (o : Result Counts Full) (r' w' s' : List ℕ) : Type 0 where
   pub records_size : length r' ≡ length r
   pub rows_size : length w' ≡ length w
-  pub done : (d : Counts) → o ≡ Done d → Ended (seen r w c) marks room r' w' s' d
-  pub full : (d : Counts) → o ≡ Full d → Failed (seen r w c) marks room r' w' s' d
+  pub done : ForOk o (λ d. Ended (seen r w c) marks room r' w' s' d)
+  pub full : ForErr o (λ e. Failed (seen r w c) marks room r' w' s' e.counts)
 
 -- the first j marks are done
 pub record Marking (r₀ w₀ s₀ : List ℕ) (c : Counts) (room : Size) (marks : List ℕ) (r w s : List ℕ) (d : Counts) (j : ℕ) : Type 0 where

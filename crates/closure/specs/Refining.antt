@@ -1,20 +1,18 @@
 -- Refining one leaf on the tables: what it starts from and what it leaves. Nothing here is promised to callers.
-use Rattle.std.specs.Prelude.{◌≡◌, Bool, ◌&&◌, List, ℕ, ◌+◌, ◌*◌, ◌/◌, ◌≤◌, ◌<◌, ltb, leb, length}
+use Rattle.std.specs.Prelude.{◌≡◌, Bool, ◌&&◌, List, ℕ, ◌+◌, ◌*◌, ◌/◌, ◌≤◌, ◌<◌, ltb, leb, length, None, Result}
+use Rattle.std.specs.Result.{ForOk, ForErr}
 use Rattle.split.specs.declared.point.Point.{Point}
 use Rattle.split.specs.Split.{Distinct}
 use Rattle.split.specs.Row.{corners_of, edge_of}
 use Rattle.tables.specs.declared.layout.Counts.{Counts}
 use Rattle.tables.specs.declared.layout.Size.{Size}
 use Rattle.tables.specs.Layout.{row_width, record_width, no_record, record_at, row_at, most_rows, most_vertices}
-use Rattle.intake.specs.declared.answer.Found.TheVariants.{Nowhere}
 use Rattle.run.specs.Skeleton.{Skeleton}
 use Rattle.run.specs.Ready.{Ready, Open, Reach, rank_in}
 use Rattle.run.specs.Run.{holders, blocking, Run, Stuck}
 use Rattle.closure.specs.declared.step.Look.{Look}
-use Rattle.closure.specs.declared.step.Patch.{Patch}
-use Rattle.closure.specs.declared.step.Patch.TheVariants as patch
-use Rattle.closure.specs.declared.step.Step.{Step}
-use Rattle.closure.specs.declared.step.Step.TheVariants.{Done, Full}
+use Rattle.closure.specs.declared.step.Clear.{Clear}
+use Rattle.closure.specs.declared.step.Full.{Full}
 use Rattle.closure.specs.State.{rows_of, seen, patch_in, State}
 
 -- the tables hold a mesh of these counts within the room, and zeros after it
@@ -50,9 +48,9 @@ pub record Jammed (S : Skeleton) (q : ℕ) (room : Size) (r w s : List ℕ) (d :
   pub tables : Tables r w s d room
 
 -- refining q on the tables r and w answered o and left r', w' and s'
-pub record Refines (r w : List ℕ) (c : Counts) (room : Size) (q : ℕ) (o : Step) (r' w' s' : List ℕ) : Type 0 where
-  pub done : (d : Counts) → o ≡ Done d → Ran (seen r w c) q room r' w' s' d
-  pub full : (d : Counts) → o ≡ Full d → Jammed (seen r w c) q room r' w' s' d
+pub record Refines (r w : List ℕ) (c : Counts) (room : Size) (q : ℕ) (o : Result Counts Full) (r' w' s' : List ℕ) : Type 0 where
+  pub done : ForOk o (λ d. Ran (seen r w c) q room r' w' s' d)
+  pub full : ForErr o (λ e. Jammed (seen r w c) q room r' w' s' e.counts)
 
 -- ---- the patch
 
@@ -69,7 +67,7 @@ pub record Patched (w s : List ℕ) (n q k : ℕ) : Type 0 where
 pub record Cuttable (r w s : List ℕ) (d : Counts) (room : Size) (q k : ℕ) : Type 0 where
   pub sure : Sure r w s d room q
   pub listed : Patched w s d.rows q k
-  pub clear : blocking (rows_of w d.rows) q ≡ Nowhere
+  pub clear : blocking (rows_of w d.rows) q ≡ None
 
 -- ---- looking at a patch
 
@@ -106,6 +104,6 @@ pub record Cleared (S : Skeleton) (q : ℕ) (room : Size) (r w s : List ℕ) (d 
   pub reach : Reach S (seen r w d)
   pub cuttable : Cuttable r w s d room q k
 
-pub record Clears (r w : List ℕ) (c : Counts) (room : Size) (q : ℕ) (o : Patch) (r' w' s' : List ℕ) : Type 0 where
-  pub clear : (d : Counts) (k : ℕ) → o ≡ patch.Clear d k → Cleared (seen r w c) q room r' w' s' d k
-  pub full : (d : Counts) → o ≡ patch.Full d → Jammed (seen r w c) q room r' w' s' d
+pub record Clears (r w : List ℕ) (c : Counts) (room : Size) (q : ℕ) (o : Result Clear Full) (r' w' s' : List ℕ) : Type 0 where
+  pub clear : ForOk o (λ p. Cleared (seen r w c) q room r' w' s' p.counts p.size)
+  pub full : ForErr o (λ e. Jammed (seen r w c) q room r' w' s' e.counts)

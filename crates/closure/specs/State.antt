@@ -106,10 +106,6 @@ pub data EndOf (e : Ends) (a : ℕ) : Type 0 where
 unfoldable pub other_end : Ends → ℕ → ℕ
 other_end e a = cond (eqb e.small a) e.large e.small
 
--- 1 for the same vertex, and else 0
-unfoldable pub once : ℕ → ℕ → ℕ
-once u v = cond (eqb u v) 1 0
-
 -- the row is a leaf holding v. A row that holds one end of an edge is in its patch exactly if it is a leaf with the other
 unfoldable pub leaf_with : ℕ → Row → Bool
 leaf_with v r = eqb r.child 0 && has r v

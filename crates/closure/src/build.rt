@@ -5,13 +5,15 @@ ghost use Rattle.closure.specs.State.{links_at, row_pushed, State};
 ghost use Rattle.closure.specs.Build.{Indexable};
 
 use crate::index::index_row;
+use split::row::Row;
+use tables::entry::Entry;
 
 fn index_standing(rows: &[u32], scratch: &mut [u32], k: usize)
     requires k_lt_most_rows { k < most_rows }
     requires k_in_bounds { 2 * links_at + 4 * k + 3 < length scratch.old }
     ensures { scratch.new ≡ row_pushed scratch.old k (row_at rows.now k) }
 {
-    index_row(scratch, k, tables::row::read(rows, k));
+    index_row(scratch, k, Row::read(rows, k));
 }
 
 // Indexes the corners of the first n rows.
@@ -19,9 +21,7 @@ pub fn index_rows(rows: &[u32], scratch: &mut [u32], n: usize)
     requires { Indexable rows.now scratch.old n }
     ensures { State rows.now scratch.new n }
 {
-    let mut k = 0usize;
-    while k < n {
+    for k in 0..n {
         index_standing(rows, scratch, k);
-        k += 1;
     }
 }

@@ -6,12 +6,11 @@ ghost use Rattle.closure.specs.Call.{Finishes, Closable, Closes, Callable, Calls
 use crate::answer::Refined;
 use crate::build::index_rows;
 use crate::marks::refine_marks;
-use crate::step::Step;
 use frame::marks::judge;
 use frame::points::fill;
 use frame::undo::undo;
-use intake::answer::Verdict;
 use tables::layout::{Counts, resized};
+use tables::refusal::{Cause, Refusal};
 
 // Fills in the points of the midpoints appended since the counts c, and answers.
 fn finish(points: &mut [f64], records: &[u32], c: Counts, d: Counts) -> Refined
@@ -19,7 +18,7 @@ fn finish(points: &mut [f64], records: &[u32], c: Counts, d: Counts) -> Refined
     ensures { Finishes points.old records.now c d result points.new }
 {
     fill(points, records, c.vertices, d.vertices);
-    Refined::Done {
+    Refined {
         counts: resized(c, d.vertices, d.rows),
         splits: (d.rows - c.rows) / 2,
     }
@@ -33,22 +32,18 @@ fn close(
     scratch: &mut [u32],
     c: Counts,
     marks: &[u32],
-) -> Refined
+) -> Result<Refined, Refusal>
     requires { Closable points.old records.old rows.old scratch.old c marks.now }
     ensures { Closes (lent points.old records.old rows.old) c marks.now result (lent points.new records.new rows.new) }
 {
     let room = tables::layout::room(points.len(), records.len(), rows.len());
     index_rows(rows, scratch, c.rows);
-    let step = refine_marks(records, rows, scratch, c, room, marks);
-    match step {
-        Step::Full(d) => {
-            undo(records, rows, c, d);
-            Refined::Refused {
-                number: 2,
-                place: 0,
-            }
+    match refine_marks(records, rows, scratch, c, room, marks) {
+        Err(full) => {
+            undo(records, rows, c, full.counts);
+            Err(Cause::Room.at(0))
         }
-        Step::Done(d) => finish(points, records, c, d),
+        Ok(d) => Ok(finish(points, records, c, d)),
     }
 }
 
@@ -60,13 +55,10 @@ pub fn refine_sound(
     scratch: &mut [u32],
     c: Counts,
     marks: &[u32],
-) -> Refined
+) -> Result<Refined, Refusal>
     requires { Callable points.old records.old rows.old scratch.old c }
     ensures { Calls (lent points.old records.old rows.old) c marks.now result (lent points.new records.new rows.new) }
 {
-    let verdict = judge(rows, c.rows, marks);
-    if let Verdict::Refused { number, place } = verdict {
-        return Refined::Refused { number, place };
-    }
+    judge(rows, c.rows, marks)?;
     close(points, records, rows, scratch, c, marks)
 }

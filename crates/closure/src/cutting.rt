@@ -6,8 +6,9 @@ ghost use Rattle.run.specs.Run.{record_for};
 ghost use Rattle.closure.specs.Refining.{Cuttable, Refines, fits_in};
 
 use crate::patch::split_patch;
-use crate::step::Step;
-use split::row::Ends;
+use crate::step::Full;
+use split::row::{Ends, Row};
+use tables::entry::Entry;
 use tables::layout::{Counts, Size, resized};
 use tables::record::Record;
 
@@ -17,17 +18,14 @@ fn fits(d: Counts, room: Size, k: usize) -> bool
     requires k_le_most_rows { k ≤ most_rows }
     ensures { result ≡ fits_in room d k }
 {
-    if room.vertices <= d.vertices {
-        return false;
-    }
-    d.rows + 2 * k <= room.rows
+    d.vertices < room.vertices && d.rows + 2 * k <= room.rows
 }
 
 // The edge of row q.
 pub fn edge_of(rows: &[u32], q: usize) -> Ends
     ensures { result ≡ edge_of (row_at rows.now q) }
 {
-    split::row::edge(tables::row::read(rows, q))
+    split::row::edge(Row::read(rows, q))
 }
 
 // Appends the record of the midpoint of e.
@@ -38,7 +36,7 @@ fn record_edge(records: &mut [u32], n: usize, e: Ends)
         first: e.small,
         second: e.large,
     };
-    tables::record::write(records, n, midpoint);
+    midpoint.write(records, n);
 }
 
 // Splits the k listed leaves of the patch of q's edge, where there is room.
@@ -50,14 +48,14 @@ pub fn cut_patch(
     room: Size,
     q: usize,
     k: usize,
-) -> Step
+) -> Result<Counts, Full>
     requires { Cuttable records.old rows.old scratch.old d room q k }
     ensures { Refines records.old rows.old d room q result records.new rows.new scratch.new }
 {
     if !fits(d, room, k) {
-        return Step::Full(d);
+        return Err(Full { counts: d });
     }
     record_edge(records, d.vertices, edge_of(rows, q));
     split_patch(rows, scratch, d.rows, k, d.vertices as u32);
-    Step::Done(resized(d, d.vertices + 1, d.rows + 2 * k))
+    Ok(resized(d, d.vertices + 1, d.rows + 2 * k))
 }

@@ -1,8 +1,8 @@
-// The index of corner slots: place 4 n + q has the key vertex q of row n. In the scratch table stand the heads and the links; at its end, whatever its length, how often each vertex is used; and before these, growing downwards, the patch that is being looked at.
+// The index of corner slots: place 4 n + q has the key vertex q of row n. In the scratch table stand the heads and the links; at its end, whatever its length, how often each vertex is used; and before these, growing downwards, the patch that is being looked at. One table for all of it, with no list of its own for the patch: a call has one memory on the stack, in which the check works first.
 ghost use Rattle.std.specs.Prelude.{◌≡◌, ◌+◌, ◌*◌, ◌<◌, length};
 ghost use Rattle.chain.specs.Chain.{pushed};
 ghost use Rattle.tables.specs.Layout.{most_rows};
-ghost use Rattle.closure.specs.State.{links_at, bumped, counted, entered, row_pushed, EndOf};
+ghost use Rattle.closure.specs.State.{links_at, counted, entered, row_pushed, EndOf};
 
 use chain::wide;
 use split::row::{Ends, Row};
@@ -10,13 +10,7 @@ use tables::layout::MOST_VERTICES;
 
 pub const LINKS: usize = MOST_VERTICES;
 
-fn bump(u: u32) -> u32
-    ensures { result ≡ bumped u }
-{
-    if u < 4294967295 { u + 1 } else { u }
-}
-
-// Slot i, with the vertex k, in the index.
+// Slot i, with the vertex k, in the index. Not by `chain::push`: its four tests, which hold here, would be made four times a row.
 fn link(scratch: &mut [u32], i: usize, k: usize)
     requires k_lt_links_at { k < links_at }
     requires i_bound { i < 4 * most_rows }
@@ -34,7 +28,7 @@ fn count(scratch: &mut [u32], k: usize)
     ensures { scratch.new ≡ counted scratch.old k }
 {
     let at = scratch.len() - LINKS + k;
-    scratch[at] = bump(scratch[at]);
+    scratch[at] = scratch[at].saturating_add(1);
 }
 
 // Slot i with its vertex v in the index, and one use of v more. A number that no vertex has changes nothing.
@@ -67,14 +61,10 @@ pub fn index_row(scratch: &mut [u32], n: usize, r: Row)
 // How often v was counted, or 0 where no count of it has a place.
 fn uses(scratch: &[u32], v: u32) -> u32 {
     let k = wide(v);
-    if scratch.len() < LINKS {
+    if LINKS <= k || scratch.len() < LINKS {
         return 0;
     }
-    let from = scratch.len() - LINKS;
-    if LINKS <= k {
-        return 0;
-    }
-    scratch[from + k]
+    scratch[scratch.len() - LINKS + k]
 }
 
 // The end of e that is in fewer rows. Any of the two is right: nothing is promised of the counts.

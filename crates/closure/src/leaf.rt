@@ -7,14 +7,16 @@ ghost use Rattle.closure.specs.State.{links_at, row_pushed, Splittable, Halves};
 use crate::index::index_row;
 use chain::wide;
 use split::row::{Row, with_child};
+use tables::entry::Entry;
 
+// That n is below the most rows is asked of each call: it is a fact of n.
 fn append(rows: &mut [u32], scratch: &mut [u32], n: usize, r: Row)
     requires n_lt_most_rows { n < most_rows }
     requires n_in_bounds { 2 * links_at + 4 * n + 3 < length scratch.old }
     ensures rows_after { rows.new ≡ put_row rows.old n r }
     ensures scratch_after { scratch.new ≡ row_pushed scratch.old n r }
 {
-    tables::row::write(rows, n, r);
+    r.write(rows, n);
     index_row(scratch, n, r);
 }
 
@@ -24,8 +26,8 @@ fn adopt(rows: &mut [u32], leaf: u32, n: usize) -> Row
     ensures value { result ≡ row_at rows.old leaf }
     ensures rows_after { rows.new ≡ put_row rows.old leaf (with_child (row_at rows.old leaf) n) }
 {
-    let held = tables::row::read(rows, wide(leaf));
-    tables::row::write(rows, wide(leaf), with_child(held, n as u32));
+    let held = Row::read(rows, wide(leaf));
+    with_child(held, n as u32).write(rows, wide(leaf));
     held
 }
 

@@ -3,8 +3,10 @@ ghost use Rattle.std.specs.Prelude.{◌<◌};
 ghost use Rattle.closure.specs.Marking.{Due, Marks, Passes, AllDue};
 
 use crate::refining::refine_leaf;
-use crate::step::Step;
+use crate::step::Full;
 use chain::wide;
+use split::row::Row;
+use tables::entry::Entry;
 use tables::layout::{Counts, Size};
 
 // Refines row q where it is a leaf; a row already split is passed over.
@@ -15,13 +17,13 @@ fn refine_mark(
     c: Counts,
     room: Size,
     q: usize,
-) -> Step
+) -> Result<Counts, Full>
     requires { Due records.old rows.old scratch.old c room q }
     ensures { Passes records.old rows.old c room q result records.new rows.new scratch.new }
 {
-    let held = tables::row::read(rows, q);
+    let held = Row::read(rows, q);
     if held.child != 0 {
-        return Step::Done(c);
+        return Ok(c);
     }
     refine_leaf(records, rows, scratch, c, room, q)
 }
@@ -33,25 +35,13 @@ pub fn refine_marks(
     c: Counts,
     room: Size,
     marks: &[u32],
-) -> Step
+) -> Result<Counts, Full>
     requires { AllDue records.old rows.old scratch.old c room marks.now }
     ensures { Marks records.old rows.old c room marks.now result records.new rows.new scratch.new }
 {
-    let n = marks.len();
     let mut d = c;
-    let mut j = 0usize;
-    while j < n {
-        let q = wide(marks[j]);
-        j += 1;
-        let step = refine_mark(records, rows, scratch, d, room, q);
-        match step {
-            Step::Full(x) => {
-                return Step::Full(x);
-            }
-            Step::Done(x) => {
-                d = x;
-            }
-        }
+    for &mark in marks {
+        d = refine_mark(records, rows, scratch, d, room, wide(mark))?;
     }
-    Step::Done(d)
+    Ok(d)
 }

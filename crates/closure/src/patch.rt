@@ -4,16 +4,14 @@ ghost use Rattle.closure.specs.State.{Patchable, Parted};
 use crate::index::LINKS;
 use crate::leaf::split_leaf;
 
-// Splits the k listed leaves at the vertex v.
+// Splits the k listed leaves at the vertex v. They are read one by one: each split writes into the same table.
 pub fn split_patch(rows: &mut [u32], scratch: &mut [u32], n: usize, k: usize, v: u32)
     requires { Patchable rows.old scratch.old n k v }
     ensures { Parted rows.old scratch.old n k v rows.new scratch.new }
 {
     let from = scratch.len() - (LINKS + k);
-    let mut j = 0usize;
-    while j < k {
+    for j in 0..k {
         let leaf = scratch[from + j];
         split_leaf(rows, scratch, n + 2 * j, leaf, v);
-        j += 1;
     }
 }

@@ -3,10 +3,10 @@ ghost use Rattle.closure.specs.Refining.{Sure, Refines, Clears};
 
 use crate::cutting::cut_patch;
 use crate::looking::look;
-use crate::step::{Patch, Step};
-use intake::answer::Found;
+use crate::step::{Clear, Full};
 use tables::layout::{Counts, Size};
 
+// The three tables are passed one by one: a struct that lends them wants, in each contract on the way, a clause for each of them that its loan is the same, and knows of no length that it stays; tried on `append` and `bear` of `leaf`.
 // Refines leaf q. The generation of the edge falls from a leaf to the one that blocks it.
 #[cycle(clear_patch_refine_leaf)]
 pub fn refine_leaf(
@@ -16,17 +16,12 @@ pub fn refine_leaf(
     c: Counts,
     room: Size,
     q: usize,
-) -> Step
+) -> Result<Counts, Full>
     requires { Sure records.old rows.old scratch.old c room q }
     ensures { Refines records.old rows.old c room q result records.new rows.new scratch.new }
 {
-    let cleared = clear_patch(records, rows, scratch, c, room, q);
-    match cleared {
-        Patch::Full(d) => Step::Full(d),
-        Patch::Clear { counts, size } => {
-            cut_patch(records, rows, scratch, counts, room, q, size)
-        }
-    }
+    let patch = clear_patch(records, rows, scratch, c, room, q)?;
+    cut_patch(records, rows, scratch, patch.counts, room, q, patch.size)
 }
 
 // Refines the leaves that block the patch of q's edge, until none does.
@@ -38,31 +33,22 @@ fn clear_patch(
     c: Counts,
     room: Size,
     q: usize,
-) -> Patch
+) -> Result<Clear, Full>
     requires { Sure records.old rows.old scratch.old c room q }
     ensures { Clears records.old rows.old c room q result records.new rows.new scratch.new }
 {
     let mut d = c;
     loop {
         let seen = look(rows, scratch, d.rows, q);
-        let other = seen.other;
-        match other {
-            Found::Nowhere => {
-                return Patch::Clear {
+        match seen.other {
+            None => {
+                return Ok(Clear {
                     counts: d,
                     size: seen.size,
-                };
+                });
             }
-            Found::At(b) => {
-                let step = refine_leaf(records, rows, scratch, d, room, b);
-                match step {
-                    Step::Full(x) => {
-                        return Patch::Full(x);
-                    }
-                    Step::Done(x) => {
-                        d = x;
-                    }
-                }
+            Some(b) => {
+                d = refine_leaf(records, rows, scratch, d, room, b)?;
             }
         }
     }

@@ -1,13 +1,11 @@
 -- The second engine (02, L10; 003, section 5): the marked leaves are split in list order; then, while some leaf holds both parents of a midpoint, the lowest such row is split. On records and rows.
-use Rattle.std.specs.Prelude.{◌≡◌, Bool, true, false, not, ◌&&◌, List, [], ◌∷◌, ◌++◌, ℕ, eqb, length, get_or}
+use Rattle.std.specs.Prelude.{◌≡◌, Bool, true, false, not, ◌&&◌, List, [], ◌∷◌, ◌++◌, ℕ, eqb, length, get_or, None, Option, Some}
 use Rattle.split.specs.declared.row.Row.{Row}
 use Rattle.split.specs.declared.row.Ends.{Ends}
 use Rattle.split.specs.Row.{pair, edge_of}
 use Rattle.tables.specs.declared.layout.Size.{Size}
 use Rattle.tables.specs.declared.record.Record.{Record}
 use Rattle.tables.specs.Layout.{no_record}
-use Rattle.intake.specs.declared.answer.Found.{Found}
-use Rattle.intake.specs.declared.answer.Found.TheVariants.{At, Nowhere}
 use Rattle.intake.specs.Search.{first, any}
 use Rattle.run.specs.Skeleton.{Skeleton, row_in}
 use Rattle.run.specs.Run.{has, same_ends, cut, record_for, Within, Over}
@@ -30,7 +28,7 @@ unfoldable pub ripe : Skeleton → ℕ → Bool
 ripe S r = eqb (row_in S.rows r).child 0 && any (parents_in S.records (row_in S.rows r)) (length S.records)
 
 -- the lowest such row (02, L10)
-abbrev pub lowest : Skeleton → Found
+abbrev pub lowest : Skeleton → Option ℕ
 lowest S = first (ripe S) (length S.rows)
 
 -- ---- one leaf split
@@ -40,9 +38,9 @@ unfoldable pub halves : List Record → Ends → ℕ → Bool
 halves R e v = midpoint_in R v && same_ends (pair (record_in R v).first (record_in R v).second) e
 
 -- leaf s split at the vertex found, or else at a new one
-abbrev pub split_at : Skeleton → ℕ → Found → Skeleton
-split_at S s (At v) = record { records = S.records; rows = cut v S.rows s }
-split_at S s Nowhere = record { records = S.records ++ (record_for (edge_of (row_in S.rows s)) ∷ []); rows = cut (length S.records) S.rows s }
+abbrev pub split_at : Skeleton → ℕ → Option ℕ → Skeleton
+split_at S s (Some v) = record { records = S.records; rows = cut v S.rows s }
+split_at S s None = record { records = S.records ++ (record_for (edge_of (row_in S.rows s)) ∷ []); rows = cut (length S.records) S.rows s }
 
 -- leaf s alone is split, at the midpoint of its edge, which is appended if it is not there yet (02, L10)
 unfoldable pub split_one : Skeleton → ℕ → Skeleton
@@ -57,8 +55,8 @@ split_marks S (r ∷ rs) = elim (eqb (row_in S.rows r).child 0) [ true ↦ split
 
 -- while there is such a row the lowest is split, until none is left (02, L10)
 pub data Completes : Skeleton → Skeleton → Type 0 where
-  complete : {S S' : Skeleton} → lowest S ≡ Nowhere → S' ≡ S → Completes S S'
-  onward : {S S' : Skeleton} {q : ℕ} → lowest S ≡ At q → Completes (split_one S q) S' → Completes S S'
+  complete : {S S' : Skeleton} → lowest S ≡ None → S' ≡ S → Completes S S'
+  onward : {S S' : Skeleton} {q : ℕ} → lowest S ≡ Some q → Completes (split_one S q) S' → Completes S S'
 
 -- the marks, then the loop
 pub record Completed (S : Skeleton) (marks : List ℕ) (S' : Skeleton) : Type 0 where
@@ -68,8 +66,8 @@ pub record Completed (S : Skeleton) (marks : List ℕ) (S' : Skeleton) : Type 0 
 
 -- the loop comes to a split that has no room
 pub data StuckLoop (room : Size) : Skeleton → Type 0 where
-  full : {S : Skeleton} {q : ℕ} → lowest S ≡ At q → Over room (split_one S q) → StuckLoop room S
-  onward : {S : Skeleton} {q : ℕ} → lowest S ≡ At q → Within room (split_one S q) → StuckLoop room (split_one S q) → StuckLoop room S
+  full : {S : Skeleton} {q : ℕ} → lowest S ≡ Some q → Over room (split_one S q) → StuckLoop room S
+  onward : {S : Skeleton} {q : ℕ} → lowest S ≡ Some q → Within room (split_one S q) → StuckLoop room (split_one S q) → StuckLoop room S
 
 -- the marks, or the loop after them, come to a split that has no room
 pub data Stuck (room : Size) : Skeleton → List ℕ → Type 0 where

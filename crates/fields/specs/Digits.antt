@@ -1,27 +1,25 @@
 -- Numbers as text (01, "The program"): what a text spells, and how a number is written.
-use Rattle.std.specs.Prelude.{true, false, cond, List, [], ◌∷◌, ◌++◌, ℕ, zero, suc, ◌+◌, ◌-◌, ◌*◌, ◌/◌, ◌%◌, ◌^◌, ◌≤◌, ltb, leb, eqb, length, get_or}
-use Rattle.fields.specs.declared.digits.Value.{Value}
-use Rattle.fields.specs.declared.digits.Value.TheVariants.{Is, Not}
+use Rattle.std.specs.Prelude.{true, false, cond, List, [], ◌∷◌, ◌++◌, ℕ, zero, suc, ◌+◌, ◌-◌, ◌*◌, ◌/◌, ◌%◌, ◌^◌, ◌≤◌, ltb, leb, eqb, length, get_or, Option, None, Some}
 
--- what a byte is worth as a digit: `0` to `9`, then `a` to `f`; 16 where it is none
-unfoldable pub worth_of : ℕ → ℕ
-worth_of x = cond (ltb x 48) 16 (cond (ltb x 58) (x - 48) (cond (ltb x 97) 16 (cond (ltb x 103) (x - 87) 16)))
+-- what a byte is worth as a digit, `0` to `9`, then `a` to `f`, if it is one
+unfoldable pub worth_of : ℕ → Option ℕ
+worth_of x = cond (ltb x 48) None (cond (ltb x 58) (Some (x - 48)) (cond (ltb x 97) None (cond (ltb x 103) (Some (x - 87)) None)))
 
 -- the number that digits of the base spell after those that spell n, the most significant first
-unfoldable pub value_from : ℕ → ℕ → List ℕ → Value
-value_from b n [] = Is n
-value_from b n (x ∷ l) = elim (leb b (worth_of x)) [ true ↦ Not | false ↦ value_from b (n * b + worth_of x) l ]
+unfoldable pub value_from : ℕ → ℕ → List ℕ → Option ℕ
+value_from b n [] = Some n
+value_from b n (x ∷ l) = elim (worth_of x) [ None ↦ None | Some d ↦ elim (leb b d) [ true ↦ None | false ↦ value_from b (n * b + d) l ] ]
 
-abbrev pub value_of : ℕ → List ℕ → Value
+abbrev pub value_of : ℕ → List ℕ → Option ℕ
 value_of b l = value_from b 0 l
 
 -- one to five decimal digits without leading zeros; zero is the single digit 0 (01, "The program")
-unfoldable pub number_of : List ℕ → Value
-number_of l = cond (eqb (length l) 0) Not (cond (ltb 5 (length l)) Not (cond (eqb (get_or l 0 0) 48) (cond (ltb 1 (length l)) Not (Is 0)) (value_of 10 l)))
+unfoldable pub number_of : List ℕ → Option ℕ
+number_of l = cond (eqb (length l) 0) None (cond (ltb 5 (length l)) None (cond (eqb (get_or l 0 0) 48) (cond (ltb 1 (length l)) None (Some 0)) (value_of 10 l)))
 
 -- 16 lower-case hex digits (01, "The program")
-unfoldable pub hex_of : List ℕ → Value
-hex_of l = cond (eqb (length l) 16) (value_of 16 l) Not
+unfoldable pub hex_of : List ℕ → Option ℕ
+hex_of l = cond (eqb (length l) 16) (value_of 16 l) None
 
 -- the text's digits spell a number of 64 bits
 pub record Narrow (b : ℕ) (l : List ℕ) : Type 0 where

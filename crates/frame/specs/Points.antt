@@ -4,7 +4,7 @@ use Rattle.split.specs.declared.point.Point.{Point}
 use Rattle.split.specs.Midpoint.{between}
 use Rattle.tables.specs.declared.record.Record.{Record}
 use Rattle.tables.specs.Layout.{point_at, record_at, put_point}
-use Rattle.frame.specs.Steps.{over}
+use Rattle.tables.specs.Steps.{over}
 
 -- halfway between the points of the vertex's parents
 abbrev pub halfway_at : List Float → Record → Point

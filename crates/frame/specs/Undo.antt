@@ -3,7 +3,7 @@ use Rattle.std.specs.Prelude.{cond, List, ℕ, leb}
 use Rattle.split.specs.declared.row.Row.{Row}
 use Rattle.split.specs.Row.{childless}
 use Rattle.tables.specs.Layout.{no_row, no_record, row_at, put_row, put_record}
-use Rattle.frame.specs.Steps.{over}
+use Rattle.tables.specs.Steps.{over}
 
 -- the row as it was among the first n: a first child not below n was set since
 unfoldable pub restored : ℕ → Row → Row

@@ -2,137 +2,65 @@
 // Prints the answers, the number of leaves, checksums of the listing, of records and rows, and whether the tables are sound.
 #![tactic(auto)]
 
-ghost use Rattle.std.specs.Prelude.{◌≤◌};
-
 use closure::answer::Refined;
-use leaves::answer::Listed;
-use opening::answer::Opened;
+use picked::is_at_corner;
+use programs::lent::Tables;
+use programs::show::YesNo;
+use programs::sum::checksum;
+use split::row::Row;
 use std::io;
-use tables::layout::Counts;
+use tables::layout::started;
+use tables::refusal::Refusal;
 
 mod picked;
-mod sum;
 
-fn number(rt: &impl Print, n: usize) -> io::Result<()> {
-    print!(rt; " {n}")
-}
-
-fn end_line(rt: &impl Print) -> io::Result<()> {
-    println!(rt)
-}
-
-// Shows an answer; the counts that hold afterwards.
-fn answer(rt: &impl Print, r: Refined, c: Counts) -> io::Result<Counts> {
-    match r {
-        Refined::Done { counts, splits } => {
-            number(rt, counts.vertices)?;
-            number(rt, counts.rows)?;
-            number(rt, splits)?;
-            end_line(rt)?;
-            Ok(counts)
+// One call, and its answer shown. Its memory is in a frame of its own, as that of `open` and of `report` is: in one frame they would not fit beside the tables.
+#[inline(never)]
+fn refine(rt: &impl Print, t: &mut Tables, marks: &[u32]) -> io::Result<()> {
+    let before = t.counts;
+    match closure::refine(t.points, t.records, t.rows, before, marks) {
+        Ok(Refined { counts, splits }) => {
+            t.counts = counts;
+            println!(rt; " {} {} {splits}", counts.vertices, counts.rows)
         }
-        Refined::Refused { number: n, place } => {
-            print!(rt; " refused")?;
-            number(rt, n as usize)?;
-            number(rt, place)?;
-            end_line(rt)?;
-            Ok(c)
-        }
+        Err(refusal) => println!(rt; " refused {refusal}"),
     }
-}
-
-fn sound(rt: &impl Print, yes: bool) -> io::Result<()> {
-    if yes {
-        println!(rt; "sound yes")
-    } else {
-        println!(rt; "sound no")
-    }
-}
-
-// The wanted leaves in one call.
-fn whole(
-    rt: &impl Print,
-    points: &mut [f64],
-    records: &mut [u32],
-    rows: &mut [u32],
-    c: Counts,
-    corner: bool,
-    marks: &mut [u32],
-) -> io::Result<Counts> {
-    let n = picked::list(rows, c.rows, corner, marks);
-    if n <= marks.len() {
-        let r = closure::refine(points, records, rows, c, &marks[0..n]);
-        return answer(rt, r, c);
-    }
-    Ok(c)
 }
 
 // As many calls as told, each on the wanted leaves.
-fn rounds(
+fn rounds<F: Fn(Row) -> bool>(
     rt: &impl Print,
-    points: &mut [f64],
-    records: &mut [u32],
-    rows: &mut [u32],
-    c: Counts,
-    corner: bool,
+    t: &mut Tables,
+    wanted: F,
     marks: &mut [u32],
     times: usize,
-) -> io::Result<Counts> {
-    let mut d = c;
-    let mut i = 0usize;
-    while i < times {
-        d = whole(rt, points, records, rows, d, corner, marks)?;
-        i += 1;
-    }
-    Ok(d)
-}
-
-fn stop(a: usize, n: usize) -> usize
-    requires { a ≤ n }
-    ensures lower_bound { a ≤ result }
-    ensures upper_bound { result ≤ n }
+) -> io::Result<()>
+    requires { F.IsAlwaysCallable wanted }
 {
-    if n - a < 1000 { n } else { a + 1000 }
-}
-
-// The marks from place a on, a thousand of them, in one call.
-fn part(
-    rt: &impl Print,
-    points: &mut [f64],
-    records: &mut [u32],
-    rows: &mut [u32],
-    c: Counts,
-    marks: &[u32],
-    a: usize,
-) -> io::Result<Counts> {
-    if a <= marks.len() {
-        let e = stop(a, marks.len());
-        let r = closure::refine(points, records, rows, c, &marks[a..e]);
-        return answer(rt, r, c);
+    for _ in 0..times {
+        let listed = picked::list(t, &wanted, marks);
+        refine(rt, t, listed)?;
     }
-    Ok(c)
+    Ok(())
 }
 
 // All leaves, a thousand in each call.
-fn parts(
-    rt: &impl Print,
-    points: &mut [f64],
-    records: &mut [u32],
-    rows: &mut [u32],
-    c: Counts,
-    marks: &mut [u32],
-) -> io::Result<Counts> {
-    let n = picked::list(rows, c.rows, false, marks);
-    let mut d = c;
-    let mut a = 0usize;
-    while a < n {
-        d = part(rt, points, records, rows, d, marks, a)?;
-        a += 1000;
+fn parts(rt: &impl Print, t: &mut Tables, marks: &mut [u32]) -> io::Result<()> {
+    for part in picked::list(t, |_| true, marks).chunks(1000) {
+        refine(rt, t, part)?;
     }
-    Ok(d)
+    Ok(())
 }
 
-fn open(points: &mut [f64], records: &mut [u32], rows: &mut [u32]) -> Opened {
+// The cube refined as often as fits, evenly.
+fn evenly(rt: &impl Print, t: &mut Tables, marks: &mut [u32]) -> io::Result<()> {
+    rounds(rt, t, |_| true, marks, 11)?;
+    parts(rt, t, marks)?;
+    rounds(rt, t, |_| true, marks, 1)
+}
+
+#[inline(never)]
+fn open(t: &mut Tables) -> Result<(), Refusal> {
     let corners = [
         0.0, 0.0, 0.0, 1.0, 0.0, 0.0, 0.0, 1.0, 0.0, 1.0, 1.0, 0.0, 0.0, 0.0, 1.0, 1.0, 0.0, 1.0,
         0.0, 1.0, 1.0, 1.0, 1.0, 1.0f64,
@@ -140,90 +68,45 @@ fn open(points: &mut [f64], records: &mut [u32], rows: &mut [u32]) -> Opened {
     let cube = [
         0, 1, 3, 7, 0, 1, 5, 7, 0, 2, 3, 7, 0, 2, 6, 7, 0, 4, 5, 7, 0, 4, 6, 7u32,
     ];
-    opening::open(&corners, &cube, points, records, rows)
+    t.counts = opening::open(&corners, &cube, t.points, t.records, t.rows)?;
+    Ok(())
 }
 
 // The leaves with their levels, listed; checksums of both lists.
-fn listed(
-    rt: &impl Print,
-    points: &[f64],
-    records: &[u32],
-    rows: &[u32],
-    c: Counts,
-    list: &mut [u32],
-    levels: &mut [u32],
-) -> io::Result<()> {
-    print!(rt; "leaves")?;
-    let r = leaves::leaves(points, records, rows, c, list, levels);
-    match r {
-        Listed::Done(n) => {
-            number(rt, n)?;
-        }
-        Listed::Refused {
-            number: n,
-            place: _,
-        } => {
-            print!(rt; " refused")?;
-            number(rt, n as usize)?;
-        }
+fn listed(rt: &impl Print, t: &Tables, list: &mut [u32], levels: &mut [u32]) -> io::Result<()> {
+    match leaves::leaves(t.points, t.records, t.rows, t.counts, list, levels) {
+        Ok(n) => print!(rt; "leaves {n}")?,
+        Err(refusal) => print!(rt; "leaves refused {}", u32::from(refusal.cause))?,
     }
-    number(rt, sum::checksum(list) as usize)?;
-    number(rt, sum::checksum(levels) as usize)?;
-    end_line(rt)
+    println!(rt; " {} {}", checksum(list), checksum(levels))
 }
 
-fn report(
-    rt: &impl Print,
-    points: &[f64],
-    records: &[u32],
-    rows: &[u32],
-    c: Counts,
-    marks: &mut [u32],
-) -> io::Result<()> {
+#[inline(never)]
+fn report(rt: &impl Print, t: &Tables, marks: &mut [u32]) -> io::Result<()> {
     let mut levels = [7u32; 50000];
-    listed(rt, points, records, rows, c, marks, &mut levels)?;
-    print!(rt; "sums")?;
-    number(rt, sum::checksum(records) as usize)?;
-    number(rt, sum::checksum(rows) as usize)?;
-    end_line(rt)?;
-    sound(rt, soundness::check(points, records, rows, c))
+    listed(rt, t, marks, &mut levels)?;
+    println!(rt; "sums {} {}", checksum(t.records), checksum(t.rows))?;
+    let sound = soundness::check(t.points, t.records, t.rows, t.counts);
+    println!(rt; "sound {}", YesNo(sound))
 }
 
-// Refined as often as fits, evenly or towards a corner.
-fn grown(
+// The cube opened, grown and reported.
+fn case<G: FnOnce(&mut Tables, &mut [u32]) -> io::Result<()>>(
     rt: &impl Print,
-    points: &mut [f64],
-    records: &mut [u32],
-    rows: &mut [u32],
-    c: Counts,
-    corner: bool,
+    t: &mut Tables,
+    grow: G,
     marks: &mut [u32],
-) -> io::Result<Counts> {
-    if corner {
-        return rounds(rt, points, records, rows, c, true, marks, 50);
+) -> io::Result<()>
+    requires { G.IsAlwaysCallable grow }
+{
+    if open(t).is_err() {
+        return println!(rt);
     }
-    let d = rounds(rt, points, records, rows, c, false, marks, 11)?;
-    let e = parts(rt, points, records, rows, d, marks)?;
-    whole(rt, points, records, rows, e, false, marks)
+    grow(t, marks)?;
+    report(rt, t, marks)
 }
 
-fn case(
-    rt: &impl Print,
-    points: &mut [f64],
-    records: &mut [u32],
-    rows: &mut [u32],
-    corner: bool,
-    marks: &mut [u32],
-) -> io::Result<()> {
-    let r = open(points, records, rows);
-    if let Opened::Done(c) = r {
-        let d = grown(rt, points, records, rows, c, corner, marks)?;
-        return report(rt, points, records, rows, d, marks);
-    }
-    end_line(rt)
-}
-
-// Both cases by one call, so that the memory of refining and that of the check are in one frame, where they share their place. The tables are arrays, so that `main` proves no length of a list written out.
+// The tables are arrays, so that `main` proves no length of a list written out.
 fn run(
     rt: &impl Print,
     points: &mut [f64; 30000],
@@ -231,12 +114,19 @@ fn run(
     rows: &mut [u32; 800000],
     marks: &mut [u32; 50000],
 ) -> io::Result<()> {
-    let mut k = 0usize;
-    while k < 2 {
-        case(rt, points, records, rows, k == 1, marks)?;
-        k += 1;
-    }
-    Ok(())
+    let mut t = Tables {
+        points,
+        records,
+        rows,
+        counts: started(0, 0),
+    };
+    case(rt, &mut t, |t, marks| evenly(rt, t, marks), marks)?;
+    case(
+        rt,
+        &mut t,
+        |t, marks| rounds(rt, t, is_at_corner, marks, 50),
+        marks,
+    )
 }
 
 fn main(rt: HostRuntime) -> io::Result<()> {

@@ -1,65 +1,26 @@
-// Leaves by their rows: all of them, those with vertex 0, how many there are.
-ghost use Rattle.std.specs.Prelude.{◌+◌, ◌≤◌, ◌<◌};
+// Leaves by their rows.
 
+use programs::lent::Tables;
 use split::row::Row;
+use tables::entry::Entry;
+use tables::layout::MOST_ROWS;
 
-fn capped(n: usize, most: usize) -> usize
-    ensures { (result ≤ n) × (result ≤ most) }
+// Whether the element has vertex 0.
+pub fn is_at_corner(r: Row) -> bool {
+    [r.v0, r.v1, r.v2, r.v3].contains(&0)
+}
+
+// Lists the wanted leaves in row order, as many as there is room for.
+pub fn list<'a, F: Fn(Row) -> bool>(t: &Tables, wanted: F, marks: &'a mut [u32]) -> &'a [u32]
+    requires { F.IsAlwaysCallable wanted }
 {
-    if n < most { n } else { most }
-}
-
-fn at_corner(r: Row) -> bool {
-    if r.v0 == 0 {
-        return true;
+    let mut count = 0;
+    for k in 0..t.counts.rows.min(MOST_ROWS) {
+        let held = Row::read(t.rows, k);
+        if count < marks.len() && held.child == 0 && wanted(held) {
+            marks[count] = k as u32;
+            count += 1;
+        }
     }
-    if r.v1 == 0 {
-        return true;
-    }
-    if r.v2 == 0 {
-        return true;
-    }
-    r.v3 == 0
-}
-
-// Whether row k is wanted: a leaf, and with vertex 0 where only those are.
-fn wanted(rows: &[u32], k: usize, corner: bool) -> bool {
-    let held = tables::row::read(rows, k);
-    if held.child != 0 {
-        return false;
-    }
-    if corner {
-        return at_corner(held);
-    }
-    true
-}
-
-// Lists row k at place j where it is wanted, and answers the next free place.
-fn keep(rows: &[u32], k: usize, corner: bool, marks: &mut [u32], j: usize) -> usize
-    requires k_bound { k < 4294967296 }
-    requires j_le_k { j ≤ k }
-    ensures { result ≤ j + 1 }
-{
-    if !wanted(rows, k, corner) {
-        return j;
-    }
-    if j < marks.len() {
-        marks[j] = k as u32;
-        return j + 1;
-    }
-    j
-}
-
-// Lists the wanted leaves among the first n rows in row order, and answers how many are listed.
-pub fn list(rows: &[u32], n: usize, corner: bool, marks: &mut [u32]) -> usize
-    ensures { result ≤ 100000 }
-{
-    let end = capped(n, 100000);
-    let mut j = 0usize;
-    let mut k = 0usize;
-    while k < end {
-        j = keep(rows, k, corner, marks, j);
-        k += 1;
-    }
-    capped(j, marks.len())
+    &marks[..count]
 }

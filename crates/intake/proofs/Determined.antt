@@ -3,12 +3,16 @@ use mathlib.Core.Path.{◌≡◌, sym, ◌∙◌}
 use Rattle.intake.proofs.grid.number_at.Reads as number_at
 use Rattle.intake.proofs.grid.vertex_at.Reads as vertex-at
 use Rattle.intake.proofs.grid.corners.Reads as corners
+use Rattle.intake.proofs.refused_at.Reads as refused-at
 use Rattle.intake.proofs.verdict_at.Reads as verdict-at
 use Rattle.intake.proofs.judge_lengths.Reads as judge-lengths
 use Rattle.intake.proofs.judge_numbers.Reads as judge-numbers
 
 pub verdict_at_determined : (κs : _) (a : _) (r r' : _) (s s' : _) → verdict-at.Learnt κs a r s → verdict-at.Learnt κs a r' s' → r ≡ r'
 verdict_at_determined κs a r r' s s' p q = p ∙ sym q
+
+pub refused_at_determined : (κs : _) (a : _) (r r' : _) (s s' : _) → refused-at.Learnt κs a r s → refused-at.Learnt κs a r' s' → r ≡ r'
+refused_at_determined κs a r r' s s' p q = p ∙ sym q
 
 pub judge_lengths_determined : (κs : _) (a : _) (r r' : _) (s s' : _) → judge-lengths.Learnt κs a r s → judge-lengths.Learnt κs a r' s' → r ≡ r'
 judge_lengths_determined κs a r r' s s' p q = p ∙ sym q

@@ -8,5 +8,5 @@ pub record FirstAt (test : ℕ → Bool) (n p : ℕ) : Type 0 where
   pub not_before : (q : ℕ) → q < p → test q ≡ false
 
 -- the test holds at no place below n
-pub record None (test : ℕ → Bool) (n : ℕ) : Type 0 where
+pub record Nowhere (test : ℕ → Bool) (n : ℕ) : Type 0 where
   pub fails : (q : ℕ) → q < n → test q ≡ false

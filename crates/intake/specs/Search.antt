@@ -1,17 +1,15 @@
 -- Searches below a number: the smallest place with a cause, whether there is one, how many there are.
-use Rattle.std.specs.Prelude.{Bool, true, false, ◌||◌, cond, ℕ, zero, suc, ◌+◌, ltb}
-use Rattle.intake.specs.declared.answer.Found.{Found}
-use Rattle.intake.specs.declared.answer.Found.TheVariants.{At, Nowhere}
+use Rattle.std.specs.Prelude.{Bool, true, false, ◌||◌, cond, ℕ, zero, suc, ◌+◌, ltb, Option, Some, None}
 
 -- what was found, or else the place n where the test holds there
-abbrev pub or_at : Found → Bool → ℕ → Found
-or_at (At p) b n = At p
-or_at Nowhere true n = At n
-or_at Nowhere false n = Nowhere
+abbrev pub or_at : Option ℕ → Bool → ℕ → Option ℕ
+or_at (Some p) b n = Some p
+or_at None true n = Some n
+or_at None false n = None
 
 -- the smallest place below n where the test holds
-unfoldable pub first : (ℕ → Bool) → ℕ → Found
-first test zero = Nowhere
+unfoldable pub first : (ℕ → Bool) → ℕ → Option ℕ
+first test zero = None
 first test (suc n) = or_at (first test n) (test n) n
 
 -- whether the test holds at a place below n

@@ -4,7 +4,7 @@ ghost use Rattle.tables.specs.Layout.{point_width};
 ghost use Rattle.intake.specs.Causes.{usable, unusable};
 ghost use Rattle.intake.specs.Search.{first};
 
-use crate::answer::Found;
+use crate::search::first;
 use tables::layout::POINT;
 
 // 2 ^ 1000 is 7e70000000000000; a NaN passes neither test.
@@ -12,10 +12,7 @@ pub fn is_usable(x: f64) -> bool
     ensures { result ≡ usable x }
 {
     let most = f64::from_bits(0x7e70000000000000);
-    if x <= most {
-        return -most <= x;
-    }
-    false
+    x <= most && -most <= x
 }
 
 fn is_unusable(coordinates: &[f64], v: usize) -> bool
@@ -23,26 +20,11 @@ fn is_unusable(coordinates: &[f64], v: usize) -> bool
     ensures { result ≡ unusable coordinates.now v }
 {
     let i = POINT * v;
-    if is_usable(coordinates[i]) {
-        if is_usable(coordinates[i + 1]) {
-            if is_usable(coordinates[i + 2]) {
-                return false;
-            }
-        }
-    }
-    true
+    !(is_usable(coordinates[i]) && is_usable(coordinates[i + 1]) && is_usable(coordinates[i + 2]))
 }
 
-pub fn first_unusable(coordinates: &[f64]) -> Found
+pub fn first_unusable(coordinates: &[f64]) -> Option<usize>
     ensures { result ≡ first (unusable coordinates.now) (length coordinates.now / point_width) }
 {
-    let n = coordinates.len() / POINT;
-    let mut v = 0usize;
-    while v < n {
-        if is_unusable(coordinates, v) {
-            return Found::At(v);
-        }
-        v += 1;
-    }
-    Found::Nowhere
+    first(coordinates.len() / POINT, |v| is_unusable(coordinates, v))
 }

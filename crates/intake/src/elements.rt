@@ -4,58 +4,29 @@ ghost use Rattle.intake.specs.Cells.{cells};
 ghost use Rattle.intake.specs.Causes.{missing, double, twice};
 ghost use Rattle.intake.specs.Search.{first};
 
-use crate::answer::Found;
 use crate::grid::{Grid, vertex_at};
+use crate::search::first;
 
 fn is_missing(elements: &[u32], grid: Grid, vertices: usize, k: usize) -> bool
     ensures { result ≡ missing vertices (cells elements.now grid) k }
 {
-    if vertices <= vertex_at(elements, grid, k, 0) {
-        return true;
-    }
-    if vertices <= vertex_at(elements, grid, k, 1) {
-        return true;
-    }
-    if vertices <= vertex_at(elements, grid, k, 2) {
-        return true;
-    }
-    vertices <= vertex_at(elements, grid, k, 3)
+    vertices <= vertex_at(elements, grid, k, 0)
+        || vertices <= vertex_at(elements, grid, k, 1)
+        || vertices <= vertex_at(elements, grid, k, 2)
+        || vertices <= vertex_at(elements, grid, k, 3)
 }
 
-pub fn first_missing(elements: &[u32], grid: Grid, vertices: usize) -> Found
+pub fn first_missing(elements: &[u32], grid: Grid, vertices: usize) -> Option<usize>
     ensures { result ≡ first (missing vertices (cells elements.now grid)) grid.count }
 {
-    let n = grid.count;
-    let mut k = 0usize;
-    while k < n {
-        if is_missing(elements, grid, vertices, k) {
-            return Found::At(k);
-        }
-        k += 1;
-    }
-    Found::Nowhere
+    first(grid.count, |k| is_missing(elements, grid, vertices, k))
 }
 
 // Whether two of four numbers are equal.
 fn repeats(a: usize, b: usize, c: usize, d: usize) -> bool
     ensures { result ≡ twice a b c d }
 {
-    if a == b {
-        return true;
-    }
-    if a == c {
-        return true;
-    }
-    if a == d {
-        return true;
-    }
-    if b == c {
-        return true;
-    }
-    if b == d {
-        return true;
-    }
-    c == d
+    a == b || a == c || a == d || b == c || b == d || c == d
 }
 
 fn is_double(elements: &[u32], grid: Grid, k: usize) -> bool
@@ -68,16 +39,8 @@ fn is_double(elements: &[u32], grid: Grid, k: usize) -> bool
     repeats(a, b, c, d)
 }
 
-pub fn first_double(elements: &[u32], grid: Grid) -> Found
+pub fn first_double(elements: &[u32], grid: Grid) -> Option<usize>
     ensures { result ≡ first (double (cells elements.now grid)) grid.count }
 {
-    let n = grid.count;
-    let mut k = 0usize;
-    while k < n {
-        if is_double(elements, grid, k) {
-            return Found::At(k);
-        }
-        k += 1;
-    }
-    Found::Nowhere
+    first(grid.count, |k| is_double(elements, grid, k))
 }

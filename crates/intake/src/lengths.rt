@@ -9,32 +9,18 @@ use tables::layout::{MOST_ROWS, MOST_VERTICES, POINT, RECORD, ROW};
 pub fn input_wrong(coordinates: usize, elements: usize) -> bool
     ensures { result ≡ wrong_input coordinates elements }
 {
-    if coordinates % POINT != 0 {
-        return true;
-    }
-    if elements % CORNERS != 0 {
-        return true;
-    }
-    if elements == 0 {
-        return true;
-    }
-    if POINT * MOST_VERTICES < coordinates {
-        return true;
-    }
-    CORNERS * MOST_ROWS < elements
+    coordinates % POINT != 0
+        || elements % CORNERS != 0
+        || elements == 0
+        || POINT * MOST_VERTICES < coordinates
+        || CORNERS * MOST_ROWS < elements
 }
 
 // Lengths that no lent table has.
 pub fn lent_wrong(points: usize, records: usize, rows: usize) -> bool
     ensures { result ≡ wrong_lent points records rows }
 {
-    if points % POINT != 0 {
-        return true;
-    }
-    if records % RECORD != 0 {
-        return true;
-    }
-    rows % ROW != 0
+    points % POINT != 0 || records % RECORD != 0 || rows % ROW != 0
 }
 
 pub fn too_many(
@@ -47,8 +33,5 @@ pub fn too_many(
     ensures { result ≡ has_no_room vertices elements points records rows }
 {
     let room = tables::layout::room(points, records, rows);
-    if room.vertices < vertices {
-        return true;
-    }
-    room.rows < elements
+    room.vertices < vertices || room.rows < elements
 }

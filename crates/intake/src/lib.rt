@@ -1,32 +1,42 @@
 // Numbers 1 to 5 of opening: lengths, room, coordinates and vertex numbers (document 01, "What comes back").
 #![tactic(auto)]
 
-pub mod answer;
 mod coordinates;
 mod elements;
 pub mod grid;
 mod lengths;
+mod search;
 
-ghost use Rattle.std.specs.Prelude.{◌≡◌};
-ghost use Rattle.intake.specs.declared.answer.Verdict.TheVariants.{Passed};
+ghost use Rattle.std.specs.Prelude.{◌≡◌, Ok};
 ghost use Rattle.intake.specs.Cells.{cells};
 ghost use Rattle.intake.specs.Verdict.{at, fitting, plain};
 
-use crate::answer::{Found, Verdict};
 use crate::coordinates::first_unusable;
 use crate::elements::{first_double, first_missing};
 use crate::grid::{CORNERS, Grid};
 use crate::lengths::{input_wrong, lent_wrong, too_many};
 use tables::layout::POINT;
+use tables::refusal::{Cause, Refusal};
 
-// Refused by this number at the place found, else the verdict of what comes next.
-pub fn verdict_at(found: Found, number: u32, next: Verdict) -> Verdict
-    ensures { result ≡ at found number next }
+// Refused for this cause at the place found, else the verdict of what comes next.
+pub fn verdict_at(
+    found: Option<usize>,
+    cause: Cause,
+    next: Result<(), Refusal>,
+) -> Result<(), Refusal>
+    ensures { result ≡ at found cause next }
 {
     match found {
-        Found::At(place) => Verdict::Refused { number, place },
-        Found::Nowhere => next,
+        Some(place) => Err(cause.at(place)),
+        None => next,
     }
+}
+
+// Refused for this cause at the place found, if there is one.
+pub fn refused_at(found: Option<usize>, cause: Cause) -> Result<(), Refusal>
+    ensures { result ≡ at found cause (Ok tt) }
+{
+    verdict_at(found, cause, Ok(()))
 }
 
 // Numbers 1 and 2.
@@ -36,40 +46,29 @@ pub fn judge_lengths(
     points: usize,
     records: usize,
     rows: usize,
-) -> Verdict
-    ensures { result ≡ fitting coordinates elements points records rows Passed }
+) -> Result<(), Refusal>
+    ensures { result ≡ fitting coordinates elements points records rows (Ok tt) }
 {
-    if input_wrong(coordinates, elements) {
-        return Verdict::Refused {
-            number: 1,
-            place: 0,
-        };
-    }
-    if lent_wrong(points, records, rows) {
-        return Verdict::Refused {
-            number: 1,
-            place: 0,
-        };
+    if input_wrong(coordinates, elements) || lent_wrong(points, records, rows) {
+        return Err(Cause::Lengths.at(0));
     }
     let vertices = coordinates / POINT;
     let count = elements / CORNERS;
     if too_many(vertices, count, points, records, rows) {
-        return Verdict::Refused {
-            number: 2,
-            place: 0,
-        };
+        return Err(Cause::Room.at(0));
     }
-    Verdict::Passed
+    Ok(())
 }
 
 // Numbers 3 to 5.
-pub fn judge_numbers(coordinates: &[f64], elements: &[u32], grid: Grid) -> Verdict
-    ensures { result ≡ plain coordinates.now (cells elements.now grid) Passed }
+pub fn judge_numbers(coordinates: &[f64], elements: &[u32], grid: Grid) -> Result<(), Refusal>
+    ensures { result ≡ plain coordinates.now (cells elements.now grid) (Ok tt) }
 {
+    let vertices = coordinates.len() / POINT;
     let unusable = first_unusable(coordinates);
-    let missing = first_missing(elements, grid, coordinates.len() / POINT);
+    refused_at(unusable, Cause::Coordinate)?;
+    let missing = first_missing(elements, grid, vertices);
+    refused_at(missing, Cause::Missing)?;
     let double = first_double(elements, grid);
-    let last = verdict_at(double, 5, Verdict::Passed);
-    let then = verdict_at(missing, 4, last);
-    verdict_at(unusable, 3, then)
+    refused_at(double, Cause::Double)
 }

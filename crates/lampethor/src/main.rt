@@ -2,27 +2,12 @@
 #![tactic(auto)]
 
 ghost use Rattle.std.specs.Prelude.{OnOk};
-ghost use Rattle.std.specs.Io.{ReadsAtMost};
 ghost use Rattle.std.specs.Io.KnownBytes.{IsAtEnd};
 
+use programs::input::read_full;
 use std::io;
 use std::io::Read;
 use text::SIZE;
-
-// Reads until the buffer is full or the input has ended; how many bytes came.
-fn read_full(input: &mut impl Read, buffer: &mut [u8]) -> io::Result<usize>
-    ensures { ReadsAtMost result buffer.new }
-{
-    let mut n = 0;
-    while n < buffer.len() {
-        let more = input.read(&mut buffer[n..])?;
-        if more == 0 {
-            break;
-        }
-        n += more;
-    }
-    Ok(n)
-}
 
 // Reads what is left of the input and drops it, so that a writer at its other end is not cut off.
 fn drop_rest<R: Read>(input: &mut R) -> io::Result<()>

@@ -1,66 +1,51 @@
 // Listing sound tables: the leaves are counted before anything is stored, since a refused call leaves both lists as at entry.
-ghost use Rattle.std.specs.Prelude.{◌≡◌, cond, ◌≤◌};
-ghost use Rattle.tables.specs.Layout.{most_rows};
-ghost use Rattle.intake.specs.Search.{count};
+ghost use Rattle.std.specs.Prelude.{◌≡◌, count_by, Ok};
+ghost use Rattle.std.specs.List.{range_with_len};
 ghost use Rattle.leaves.specs.Lists.{Accepts, OnRoom};
 ghost use Rattle.leaves.specs.Walk.{rows_of, leaf_at, Listable, Roomy};
 
-use crate::answer::Listed;
 use crate::roots::list_roots;
 use chain::clear;
+use split::row::Row;
+use tables::entry::Entry;
+use tables::refusal::{Cause, Refusal};
 
-// 1 for a leaf, 0 for a row with children.
-fn leaf_at(rows: &[u32], k: usize) -> usize
-    ensures { result ≡ cond (leaf_at rows.now k) 1 0 }
+// Here and in `roots` the rows come with how many of them are used, and the lists with a place: the lent tables are longer, and are cut to that nowhere else.
+fn is_leaf(rows: &[u32], k: usize) -> bool
+    ensures { result ≡ leaf_at rows.now k }
 {
-    let held = tables::row::read(rows, k);
-    if held.child == 0 {
-        return 1;
-    }
-    0
+    Row::read(rows, k).child == 0
 }
 
 fn count_leaves(rows: &[u32], n: usize) -> usize
-    requires { n ≤ most_rows }
-    ensures { result ≡ count (leaf_at rows.now) n }
+    ensures { result ≡ count_by (leaf_at rows.now) (range_with_len 0 n) }
 {
-    let mut size = 0usize;
-    let mut k = 0usize;
-    while k < n {
-        size += leaf_at(rows, k);
-        k += 1;
-    }
-    size
+    (0..n).filter(|&k| is_leaf(rows, k)).count()
 }
 
-// Lists all leaves where both lists have room for them, with zeros after them.
-fn fill(rows: &[u32], n: usize, list: &mut [u32], levels: &mut [u32]) -> Listed
+// Lists all leaves where both lists have room for them, with zeros after them, and answers how many they are.
+fn fill(rows: &[u32], n: usize, list: &mut [u32], levels: &mut [u32]) -> usize
     requires { Roomy rows.now n list.old levels.old }
-    ensures { Accepts (rows_of rows.now n) list.old levels.old result list.new levels.new }
+    ensures { Accepts (rows_of rows.now n) list.old levels.old (Ok result) list.new levels.new }
 {
     clear(list);
     clear(levels);
-    let size = list_roots(rows, n, list, levels);
-    Listed::Done(size)
+    list_roots(rows, n, list, levels)
 }
 
 // Lists the leaves of sound tables.
-pub fn list_sound(rows: &[u32], n: usize, list: &mut [u32], levels: &mut [u32]) -> Listed
+pub fn list_sound(
+    rows: &[u32],
+    n: usize,
+    list: &mut [u32],
+    levels: &mut [u32],
+) -> Result<usize, Refusal>
     requires { Listable rows.now n }
     ensures { OnRoom (rows_of rows.now n) list.old levels.old result list.new levels.new }
 {
     let size = count_leaves(rows, n);
-    if list.len() < size {
-        return Listed::Refused {
-            number: 2,
-            place: 0,
-        };
+    if list.len() < size || levels.len() < size {
+        return Err(Cause::Room.at(0));
     }
-    if levels.len() < size {
-        return Listed::Refused {
-            number: 2,
-            place: 0,
-        };
-    }
-    fill(rows, n, list, levels)
+    Ok(fill(rows, n, list, levels))
 }

@@ -1,7 +1,6 @@
 // Listing the leaves, root by root, with their levels (document 01, "What comes back").
 #![tactic(auto)]
 
-pub mod answer;
 mod call;
 mod roots;
 mod walk;
@@ -9,8 +8,8 @@ mod walk;
 ghost use Rattle.sound.specs.Check.{lent};
 ghost use Rattle.leaves.specs.Lists.{Lists};
 
-use crate::answer::Listed;
 use tables::layout::Counts;
+use tables::refusal::{Cause, Refusal};
 
 // Lists the leaves' rows in one list and their levels in the other, or refuses and changes nothing.
 pub fn leaves(
@@ -20,14 +19,11 @@ pub fn leaves(
     c: Counts,
     list: &mut [u32],
     levels: &mut [u32],
-) -> Listed
+) -> Result<usize, Refusal>
     ensures { Lists (lent points.now records.now rows.now) c list.old levels.old result list.new levels.new }
 {
     if !soundness::check(points, records, rows, c) {
-        return Listed::Refused {
-            number: 9,
-            place: 0,
-        };
+        return Err(Cause::Unsound.at(0));
     }
     call::list_sound(rows, c.rows, list, levels)
 }

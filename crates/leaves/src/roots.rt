@@ -4,13 +4,15 @@ ghost use Rattle.leaves.specs.Walk.{rows_in, Rooted, Stores, Listable};
 
 use crate::walk::list_from;
 use chain::wide;
+use split::row::Row;
+use tables::entry::Entry;
 
 // Lists the tree of row k where it is a root, and answers the next place.
 fn list_root(rows: &[u32], k: usize, list: &mut [u32], levels: &mut [u32], at: usize) -> usize
     requires { Rooted rows.now k at }
     ensures { Stores rows.now (tree_of (rows_in rows.now) k) at list.old levels.old result list.new levels.new }
 {
-    let held = tables::row::read(rows, k);
+    let held = Row::read(rows, k);
     if wide(held.parent) == k {
         return list_from(rows, k, list, levels, at);
     }
@@ -22,10 +24,8 @@ pub fn list_roots(rows: &[u32], n: usize, list: &mut [u32], levels: &mut [u32]) 
     ensures { Stores rows.now (trees_below (rows_in rows.now) n) 0 list.old levels.old result list.new levels.new }
 {
     let mut at = 0usize;
-    let mut k = 0usize;
-    while k < n {
+    for k in 0..n {
         at = list_root(rows, k, list, levels, at);
-        k += 1;
     }
     at
 }

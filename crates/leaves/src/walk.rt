@@ -4,18 +4,17 @@ ghost use Rattle.leaves.specs.Listing.{level_of};
 ghost use Rattle.leaves.specs.Walk.{below, Low, Walkable, Stores, StoresOne};
 
 use chain::{put, wide};
+use split::row::Row;
+use tables::entry::Entry;
 
 const DIMENSION: u32 = 3;
 
-// The level of a depth (document 02, L1): divided by the dimension and rounded up, with no sum that could outgrow a u32.
+// The level of a depth (document 02, L1): divided by the dimension and rounded up.
 fn level(depth: u32, dimension: u32) -> u32
     requires { 1 ≤ dimension }
     ensures { result ≡ level_of dimension depth }
 {
-    if depth == 0 {
-        return 0;
-    }
-    (depth - 1) / dimension + 1
+    depth.div_ceil(dimension)
 }
 
 // Lists the leaf k, and answers the next place.
@@ -33,7 +32,7 @@ pub fn list_from(rows: &[u32], k: usize, list: &mut [u32], levels: &mut [u32], a
     requires { Walkable rows.now k at }
     ensures { Stores rows.now (below rows.now k) at list.old levels.old result list.new levels.new }
 {
-    let held = tables::row::read(rows, k);
+    let held = Row::read(rows, k);
     if held.child == 0 {
         return list_leaf(list, levels, at, k, held.depth);
     }

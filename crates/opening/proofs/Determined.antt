@@ -11,7 +11,7 @@ open_determined κs a r r' s s' p q = p.answers ∙ sym q.answers
 
 -- nothing of an answer is lost in its report, whichever inputs the two calls had
 pub open_reported : (κs κs' : _) (a a' : _) (r r' : _) (s s' : _) → opening.Learnt κs a r s → opening.Learnt κs' a' r' s' → reported r ≡ reported r' → r ≡ r'
-open_reported κs κs' a a' r r' s s' p q e = report_tells r r' p q e
+open_reported κs κs' a a' r r' s s' p q e = report_tells r r' e
 
 -- the lent tables are the third to the fifth parameter
 pub open_points_determined : (κs : _) (a : _) (r r' : _) (s s' : _) → opening.Learnt κs a r s → opening.Learnt κs a r' s' → s.1.1.0.now ≡ s'.1.1.0.now

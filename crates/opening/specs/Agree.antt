@@ -1,20 +1,14 @@
 -- Whether tables hold what opening afresh would give (01, "Sound tables": the same colours and, but for the first child, the same rows).
-use Rattle.std.specs.Prelude.{Bool, true, false, ◌&&◌, List, ℕ, zero, suc, ◌+◌, ◌*◌, ◌/◌, eqb, leb, length, get_or, Float}
+use Rattle.std.specs.Prelude.{Bool, true, ◌&&◌, List, ℕ, zero, suc, ◌+◌, ◌*◌, ◌/◌, eqb, leb, length, get_or, Float, is_ok}
 use Rattle.split.specs.Row.{same_row}
 use Rattle.tables.specs.declared.record.Record.{Record}
 use Rattle.tables.specs.Layout.{record_at, row_at, most_rows, most_vertices, point_width}
-use Rattle.intake.specs.declared.answer.Verdict.{Verdict}
-use Rattle.intake.specs.declared.answer.Verdict.TheVariants.{Passed, Refused}
 use Rattle.intake.specs.Verdict.{plain}
 use Rattle.intake.specs.Cells.{Cells}
 use Rattle.opening.specs.Colours.{colours, largest}
 use Rattle.opening.specs.Order.{root_of}
 use Rattle.opening.specs.Opening.{initial, late}
 use Rattle.opening.specs.Scratch.{links_at}
-
-abbrev pub accepts : Verdict → Bool
-accepts (Refused n p) = false
-accepts Passed = true
 
 -- the test holds at all places below n
 unfoldable pub every : (ℕ → Bool) → ℕ → Bool
@@ -41,5 +35,5 @@ workable coordinates elements memory = leb coordinates (point_width * most_verti
 -- opening F and E passes tests 3 to 8, and the tables have its records and, but for the first child, its rows
 unfoldable pub agreed : List Float → Cells → List ℕ → List ℕ → Bool
 agreed F E records rows =
-    accepts (plain F E (late E (length F / point_width)))
+    is_ok (plain F E (late E (length F / point_width)))
     && (records_agree (paint F E) records (length F / point_width) && rows_agree (largest (colours E (length F / point_width))) (paint F E) E rows E.count)

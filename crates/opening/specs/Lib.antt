@@ -7,3 +7,4 @@ pub mod Agree
 pub mod Greedy
 pub mod Refusals
 pub mod Demanded
+pub mod Mesh

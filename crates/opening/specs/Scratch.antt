@@ -1,15 +1,12 @@
 -- The tables of a call while opening looks at the input: the index, its heads before its links, and the colours; and what each step keeps true of them. Nothing here is promised to callers.
-use Rattle.std.specs.Prelude.{◌≡◌, Bool, true, false, ◌&&◌, ◌||◌, cond, ◌⊎◌, List, ℕ, zero, suc, ◌+◌, ◌*◌, ◌/◌, ◌%◌, ◌≤◌, ◌<◌, max, eqb, ltb, leb, length, get_or, set, replicate, Float}
+use Rattle.std.specs.Prelude.{◌≡◌, Bool, true, false, ◌&&◌, ◌||◌, cond, ◌⊎◌, List, ℕ, zero, suc, ◌+◌, ◌*◌, ◌/◌, ◌%◌, ◌≤◌, ◌<◌, max, eqb, ltb, leb, length, get_or, set, replicate, Float, Option, None, Ok}
 use Rattle.tables.specs.Layout.{most_rows, most_vertices, point_width, record_width, row_width}
 use Rattle.chain.specs.Chain.{Indexed}
-use Rattle.intake.specs.declared.answer.Found.{Found}
-use Rattle.intake.specs.declared.answer.Found.TheVariants.{Nowhere}
-use Rattle.intake.specs.declared.answer.Verdict.{Verdict}
-use Rattle.intake.specs.declared.answer.Verdict.TheVariants.{Passed}
+use Rattle.tables.specs.declared.refusal.Cause.TheVariants.{Same, Third}
 use Rattle.intake.specs.declared.grid.Four.{Four}
 use Rattle.opening.specs.declared.faces.Seen.{Seen}
 use Rattle.opening.specs.declared.faces.Met.{Met}
-use Rattle.intake.specs.Verdict.{at, plain}
+use Rattle.intake.specs.Verdict.{Verdict, at, plain}
 use Rattle.opening.specs.Opening.{late, judged}
 use Rattle.intake.specs.Search.{first, count}
 use Rattle.intake.specs.Cells.{Cells, quads}
@@ -18,9 +15,6 @@ use Rattle.opening.specs.Colours.{taken, colours, garish}
 
 abbrev pub links_at : ℕ
 links_at = most_vertices
-
-abbrev pub paint_length : ℕ
-paint_length = most_vertices
 
 -- the key of corner slot i: four slots an element
 abbrev pub slot : Cells → ℕ → ℕ
@@ -51,7 +45,6 @@ Ready E index = Filled E (4 * E.count) index
 
 -- a table of colours, all zero
 pub record Clear (paint : List ℕ) : Type 0 where
-  pub size : length paint ≡ paint_length
   pub zeros : (u : ℕ) → get_or paint u 0 ≡ 0
 
 -- a place of an element, one of two
@@ -75,27 +68,9 @@ pub record Few (s : Seen) : Type 0 where
 abbrev pub one : Bool → ℕ
 one t = cond t 1 0
 
--- r says whether two numbers are equal
-pub record Is (a b r : ℕ) : Type 0 where
-  pub is : r ≡ one (eqb a b)
-  pub small : r ≤ 1
-
--- four different vertices
-pub record Different (w : Four) : Type 0 where
-  pub ab : w.a ≡ w.b → ⊥
-  pub ac : w.a ≡ w.c → ⊥
-  pub ad : w.a ≡ w.d → ⊥
-  pub bc : w.b ≡ w.c → ⊥
-  pub bd : w.b ≡ w.d → ⊥
-  pub cd : w.c ≡ w.d → ⊥
-
+-- one of four vertices is v
 unfoldable pub among : Four → ℕ → Bool
 among w v = eqb w.a v || (eqb w.b v || (eqb w.c v || eqb w.d v))
-
--- r says whether one of four vertices is v
-pub record Held (w : Four) (v r : ℕ) : Type 0 where
-  pub is : r ≡ one (among w v)
-  pub small : r ≤ 1
 
 -- the vertex at a place of four, and all four from this place on
 unfoldable pub place_of : Four → ℕ → ℕ
@@ -146,73 +121,58 @@ pub record Painted (E : Cells) (v : ℕ) (paint : List ℕ) : Type 0 where
   pub small : (u : ℕ) → u < v → get_or (colours E v) u 0 ≤ 63
 
 -- sixty-four flags, none set
-abbrev pub Flags : List ℕ
-Flags = replicate 64 0
+abbrev pub no_flags : List Bool
+no_flags = replicate 64 false
 
 -- the flags with the colour of u set where u is smaller than v
-unfoldable pub marked : List ℕ → ℕ → ℕ → List ℕ → List ℕ
-marked paint v u flags = cond (ltb u v) (set flags (get_or paint (u) 0) 1) flags
+unfoldable pub marked : List ℕ → ℕ → ℕ → List Bool → List Bool
+marked paint v u flags = cond (ltb u v) (set flags (get_or paint u 0) true) flags
 
-unfoldable pub marked_all : Cells → List ℕ → ℕ → ℕ → List ℕ → List ℕ
+unfoldable pub marked_all : Cells → List ℕ → ℕ → ℕ → List Bool → List Bool
 marked_all E paint v k flags =
     marked paint v (vertex E k 3) (marked paint v (vertex E k 2) (marked paint v (vertex E k 1) (marked paint v (vertex E k 0) flags)))
 
 -- flag c is set exactly if a smaller neighbour of v has the colour c
-pub record Marks (E : Cells) (v : ℕ) (flags : List ℕ) : Type 0 where
+pub record Marks (E : Cells) (v : ℕ) (flags : List Bool) : Type 0 where
   pub size : length flags ≡ 64
-  pub set : (c : ℕ) → c < 64 → taken E (colours E v) v c ≡ cond (eqb (get_or flags c 0) 0) false true
-
--- the first flag below n that is not set, or n
-unfoldable pub unmarked : List ℕ → ℕ → ℕ
-unmarked flags zero = 0
-unmarked flags (suc n) = cond (ltb (unmarked flags n) n) (unmarked flags n) (cond (eqb (get_or flags n 0) 0) n (suc n))
+  pub set : (c : ℕ) → c < 64 → taken E (colours E v) v c ≡ get_or flags c false
 
 -- the smallest vertex with a colour over 63; where there is none, all colours stand in the table
-pub record Coloured (vertices : ℕ) (E : Cells) (r : Found) (paint : List ℕ) : Type 0 where
+pub record Coloured (vertices : ℕ) (E : Cells) (r : Option ℕ) (paint : List ℕ) : Type 0 where
   pub answer : r ≡ first (garish E) vertices
-  pub size : length paint ≡ paint_length
-  pub painted : r ≡ Nowhere → Painted E vertices paint
+  pub painted : r ≡ None → Painted E vertices paint
 
 -- the verdict of tests 6 and 7; where they pass, every corner slot is in the index
 pub record Sifted (E : Cells) (r : Verdict) (index : List ℕ) : Type 0 where
-  pub answer : r ≡ at (first (same E) E.count) 6 (at (first (third E) E.count) 7 Passed)
-  pub ready : r ≡ Passed → Ready E index
+  pub answer : r ≡ at (first (same E) E.count) Same (at (first (third E) E.count) Third (Ok tt))
+  pub ready : r ≡ Ok tt → Ready E index
 
 -- the verdict of tests 6 to 8; where they pass, all colours stand in the table
 pub record Judged (vertices : ℕ) (E : Cells) (r : Verdict) (paint : List ℕ) : Type 0 where
   pub answer : r ≡ late E vertices
-  pub size : length paint ≡ paint_length
-  pub painted : r ≡ Passed → Painted E vertices paint
+  pub painted : r ≡ Ok tt → Painted E vertices paint
 
 -- an input within capacity
 pub record Moderate (coordinates elements : ℕ) : Type 0 where
   pub few_coordinates : coordinates ≤ point_width * most_vertices
   pub few_elements : elements ≤ most_rows
 
--- and an index for it that has no slot yet
-pub record Given (coordinates : ℕ) (E : Cells) (index : List ℕ) : Type 0 where
-  pub moderate : Moderate coordinates E.count
-  pub empty : Filled E 0 index
-
 -- the verdict of tests 3 to 8; where they pass, the elements are plain and all colours stand in the table
 pub record Passing (F : List Float) (E : Cells) (r : Verdict) (paint : List ℕ) : Type 0 where
   pub answer : r ≡ plain F E (late E (length F / point_width))
-  pub size : length paint ≡ paint_length
-  pub plain : r ≡ Passed → Plain (length F / point_width) E
-  pub painted : r ≡ Passed → Painted E (length F / point_width) paint
+  pub plain : r ≡ Ok tt → Plain (length F / point_width) E
+  pub painted : r ≡ Ok tt → Painted E (length F / point_width) paint
 
 -- all that storing the opened mesh relies on
 pub record Storable (F : List Float) (E paint : List ℕ) (points records rows : ℕ) : Type 0 where
   pub plain : Plain (length F / point_width) (quads E)
-  pub size : length paint ≡ paint_length
   pub painted : Painted (quads E) (length F / point_width) paint
   pub room : Roomy (length F) (length E) points records rows
 
 -- the verdict of all tests; where they pass, the input is plain and all colours stand in the table
 pub record Settled (F : List Float) (E : List ℕ) (points records rows : ℕ) (r : Verdict) (paint : List ℕ) : Type 0 where
   pub answer : r ≡ judged F E points records rows
-  pub size : length paint ≡ paint_length
-  pub storable : r ≡ Passed → Storable F E paint points records rows
+  pub storable : r ≡ Ok tt → Storable F E paint points records rows
 
 -- the colour of v as the table has it
 abbrev pub colour_in : List ℕ → ℕ → ℕ

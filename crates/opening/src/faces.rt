@@ -1,14 +1,17 @@
 // Numbers 6 and 7 at one element, through the index of the elements before it: the same four vertices before, a face in two elements before.
-ghost use Rattle.std.specs.Prelude.{◌≡◌, ◌*◌, ◌/◌, ◌<◌, ◌+◌, length};
-ghost use Rattle.intake.specs.Cells.{cells, four_of};
+ghost use Rattle.std.specs.Prelude.{◌≡◌, ◌*◌, ◌<◌};
+ghost use Rattle.intake.specs.Cells.{four_of};
 ghost use Rattle.intake.specs.Causes.{has};
-ghost use Rattle.opening.specs.Scratch.{Plain, Filled, Chosen, Other, Is, Different, turned_of, Held, Few, noted, Counted, crowd, Around, Meets};
+ghost use Rattle.opening.specs.Mesh.{cells_of};
+ghost use Rattle.opening.specs.Sorting.{Low};
+ghost use Rattle.opening.specs.Scratch.{Filled, Chosen, Other, among, turned_of, Few, noted, Counted, crowd, Around, Meets};
 
-use crate::index::{LINKS, place};
+use crate::index::{LINKS, Uses, place};
+use crate::mesh::Mesh;
 use chain::wide;
-use intake::grid::{Four, Grid, corners};
+use intake::grid::Four;
 
-// Of the elements that hold a vertex: how many hold all of a, b and c, and how many hold two of them.
+// Of the elements that hold a vertex: how many hold all of three others a, b and c, and how many hold two of them.
 #[derive(Clone, Copy)]
 pub struct Seen {
     pub all: u32,
@@ -24,62 +27,38 @@ pub struct Met {
     pub third: bool,
 }
 
-// 1 where two numbers are equal, else 0.
-fn is(a: u32, b: u32) -> u32
-    ensures { Is a b result }
+// Whether one of four vertices is v. Without branches: no test would be foreseen. (`has` of closure is the same of a row: to take its vertices out first would be as long.)
+#[tactic(auto, using(crate::proofs::laws::Faces::held))]
+fn holds(w: Four, v: u32) -> bool
+    ensures { result ≡ among w v }
 {
-    if a == b {
-        return 1;
-    }
-    0
+    (w.a == v) | (w.b == v) | (w.c == v) | (w.d == v)
 }
 
-// 1 where one of four different vertices is v, else 0. A sum without branches: no test would be foreseen.
-fn holds(w: Four, v: u32) -> u32
-    requires { Different w }
-    ensures { Held w v result }
+// Element j is seen: which of the last three of four vertices it holds.
+#[tactic(auto, using(crate::proofs::laws::Faces::noted_held))]
+fn note(mesh: &Mesh, j: usize, t: Four, s: Seen) -> Seen
+    requires { Few s }
+    ensures { result ≡ noted (has (cells_of mesh.now) j t.b) (has (cells_of mesh.now) j t.c) (has (cells_of mesh.now) j t.d) s }
 {
-    is(w.a, v) + is(w.b, v) + is(w.c, v) + is(w.d, v)
-}
-
-// Element j is seen: which of a, b and c it holds.
-fn note(elements: &[u32], grid: Grid, j: usize, a: u32, b: u32, c: u32, s: Seen) -> Seen
-    requires different { Different (four_of (cells elements.now grid) j) }
-    requires few { Few s }
-    ensures { result ≡ noted (has (cells elements.now grid) j a) (has (cells elements.now grid) j b) (has (cells elements.now grid) j c) s }
-{
-    let w = corners(elements, grid, j);
-    let x = holds(w, a);
-    let y = holds(w, b);
-    let z = holds(w, c);
-    let ab = x * y;
-    let ac = x * z;
-    let bc = y * z;
+    let w = mesh.corners(j);
+    let x = holds(w, t.b);
+    let y = holds(w, t.c);
+    let z = holds(w, t.d);
     Seen {
-        all: s.all + x * bc,
-        ab: s.ab + ab,
-        ac: s.ac + ac,
-        bc: s.bc + bc,
+        all: s.all + u32::from(x & y & z),
+        ab: s.ab + u32::from(x & y),
+        ac: s.ac + u32::from(x & z),
+        bc: s.bc + u32::from(y & z),
     }
 }
 
-// Walks the chain of v: what the elements before k that hold v hold of a, b and c.
-fn tally(
-    elements: &[u32],
-    grid: Grid,
-    index: &[u32],
-    vertices: usize,
-    k: usize,
-    v: usize,
-    a: u32,
-    b: u32,
-    c: u32,
-) -> Seen
-    requires plain { Plain vertices (cells elements.now grid) }
-    requires filled { Filled (cells elements.now grid) (4 * k) index.now }
-    requires k_lt_count { k < grid.count }
-    requires v_lt_vertices { v < vertices }
-    ensures { Counted (cells elements.now grid) k v a b c result }
+// Walks the chain of the first of four vertices: what the elements before k that hold it hold of the other three.
+fn tally(mesh: &Mesh, index: &[u32], k: usize, t: Four) -> Seen
+    requires filled { Filled (cells_of mesh.now) (4 * k) index.now }
+    requires k_lt_count { k < mesh.now.grid.count }
+    requires first_lt_vertices { t.a < mesh.now.vertices }
+    ensures { Counted (cells_of mesh.now) k t.a t.b t.c t.d result }
 {
     let mut s = Seen {
         all: 0,
@@ -87,41 +66,34 @@ fn tally(
         ac: 0,
         bc: 0,
     };
-    let mut at = wide(index[v]);
+    let mut at = wide(index[wide(t.a)]);
     while 0 < at {
         let i = at - 1;
-        s = note(elements, grid, i / 4, a, b, c, s);
+        s = note(mesh, i / 4, t, s);
         at = wide(index[LINKS + i]);
     }
     s
 }
 
-// Whether a is used less than b. It only chooses which chain is walked, and any choice is right, so it promises nothing.
-fn used_less(uses: &[u32], a: usize, b: usize) -> bool {
-    if uses.len() <= a {
-        return false;
-    }
-    if uses.len() <= b {
-        return false;
-    }
-    uses[a] < uses[b]
-}
-
-// Of two places of an element that whose vertex is used less.
-fn rarer(w: Four, uses: &[u32], p: usize, q: usize) -> usize
+// Of two places of an element that whose vertex is used less. It only chooses which chain is walked, and any choice is right, so it promises no more.
+#[tactic(auto, using(crate::proofs::laws::Faces::place_low))]
+fn rarer(w: Four, uses: &Uses, p: usize, q: usize) -> usize
+    requires low { Low w }
     requires p_bound { p < 4 }
     requires q_bound { q < 4 }
     ensures { Chosen p q result }
 {
-    if used_less(uses, wide(place(w, q)), wide(place(w, p))) {
+    if uses[wide(place(w, q))] < uses[wide(place(w, p))] {
         return q;
     }
     p
 }
 
 // Of the other places of an element than m that whose vertex is used least.
-fn other(w: Four, uses: &[u32], m: usize) -> usize
-    requires { m < 4 }
+#[tactic(auto, using(crate::proofs::laws::Faces::other_chosen))]
+fn other(w: Four, uses: &Uses, m: usize) -> usize
+    requires low { Low w }
+    requires m_bound { m < 4 }
     ensures { Other m result }
 {
     let p = rarer(w, uses, (m + 1) % 4, (m + 2) % 4);
@@ -129,19 +101,15 @@ fn other(w: Four, uses: &[u32], m: usize) -> usize
 }
 
 // Whether two elements hold the same two of three vertices.
+#[tactic(auto, unfolding(crate::specs::Scratch::crowd))]
 fn crowded(s: Seen) -> bool
     ensures { result ≡ crowd s }
 {
-    if 1 < s.ab {
-        return true;
-    }
-    if 1 < s.ac {
-        return true;
-    }
-    1 < s.bc
+    1 < s.ab || 1 < s.ac || 1 < s.bc
 }
 
 // Four vertices from place m on.
+#[tactic(auto, unfolding(crate::specs::Scratch::turned_of))]
 fn turned(w: Four, m: usize) -> Four
     requires { m < 4 }
     ensures { result ≡ turned_of w m }
@@ -155,24 +123,14 @@ fn turned(w: Four, m: usize) -> Four
 }
 
 // Number 6 at element k, whose vertices are w, and number 7 at its three faces that hold the vertex at place m.
-fn around(
-    elements: &[u32],
-    grid: Grid,
-    index: &[u32],
-    vertices: usize,
-    k: usize,
-    w: Four,
-    m: usize,
-) -> Met
-    requires plain { Plain vertices (cells elements.now grid) }
-    requires filled { Filled (cells elements.now grid) (4 * k) index.now }
-    requires k_lt_count { k < grid.count }
-    requires w_value { w ≡ four_of (cells elements.now grid) k }
+fn around(mesh: &Mesh, index: &[u32], k: usize, w: Four, m: usize) -> Met
+    requires filled { Filled (cells_of mesh.now) (4 * k) index.now }
+    requires k_lt_count { k < mesh.now.grid.count }
+    requires w_value { w ≡ four_of (cells_of mesh.now) k }
     requires m_bound { m < 4 }
-    ensures { Around (cells elements.now grid) k m result }
+    ensures { Around (cells_of mesh.now) k m result }
 {
-    let t = turned(w, m);
-    let s = tally(elements, grid, index, vertices, k, wide(t.a), t.b, t.c, t.d);
+    let s = tally(mesh, index, k, turned(w, m));
     Met {
         same: 0 < s.all,
         third: crowded(s),
@@ -180,24 +138,16 @@ fn around(
 }
 
 // Numbers 6 and 7 at element k: the chain of the vertex that is used least has all but the face opposite to it, and that of any other vertex has this face.
-pub fn meets(
-    elements: &[u32],
-    grid: Grid,
-    index: &[u32],
-    uses: &[u32],
-    vertices: usize,
-    k: usize,
-) -> Met
-    requires plain { Plain vertices (cells elements.now grid) }
-    requires filled { Filled (cells elements.now grid) (4 * k) index.now }
-    requires k_lt_count { k < grid.count }
-    ensures { Meets (cells elements.now grid) k result }
+pub fn meets(mesh: &Mesh, index: &[u32], uses: &Uses, k: usize) -> Met
+    requires filled { Filled (cells_of mesh.now) (4 * k) index.now }
+    requires k_lt_count { k < mesh.now.grid.count }
+    ensures { Meets (cells_of mesh.now) k result }
 {
-    let w = corners(elements, grid, k);
+    let w = mesh.corners(k);
     let m = rarer(w, uses, 0, other(w, uses, 0));
-    let near = around(elements, grid, index, vertices, k, w, m);
+    let near = around(mesh, index, k, w, m);
     if near.third {
         return near;
     }
-    around(elements, grid, index, vertices, k, w, other(w, uses, m))
+    around(mesh, index, k, w, other(w, uses, m))
 }

@@ -1,111 +1,89 @@
 // The tests in their order.
-ghost use Rattle.std.specs.Prelude.{◌≡◌, length};
-ghost use Rattle.intake.specs.Cells.{cells};
-ghost use Rattle.intake.specs.declared.answer.Verdict.TheVariants.{Passed};
-ghost use Rattle.intake.specs.Search.{or_at};
-ghost use Rattle.opening.specs.Scratch.{Plain, Filled, Clear, Sifted, Judged, Moderate, Given, Passing, Settled};
+ghost use Rattle.std.specs.Prelude.{◌+◌, ◌*◌, ◌≤◌};
+ghost use Rattle.tables.specs.Layout.{most_rows};
+ghost use Rattle.opening.specs.Mesh.{cells_in, cells_of};
+ghost use Rattle.opening.specs.Scratch.{links_at, Filled, Clear, Sifted, Judged, Passing, Settled};
 
-use crate::colours::colour_all;
+use crate::colours::{Paint, colour_all};
 use crate::faces::meets;
-use crate::index::fill;
-use intake::answer::{Found, Verdict};
+use crate::index::{LINKS, Uses, fill};
+use crate::input::Input;
+use crate::mesh::Mesh;
 use intake::grid::{CORNERS, Grid};
-use intake::{judge_lengths, judge_numbers, verdict_at};
-use tables::layout::{MOST_VERTICES, POINT};
+use intake::{judge_lengths, judge_numbers, refused_at};
+use tables::layout::{MOST_ROWS, MOST_VERTICES, POINT};
+use tables::refusal::{Cause, Refusal};
 
-// What was found, or else place k where the test holds there.
-fn or_at(found: Found, met: bool, k: usize) -> Found
-    ensures { result ≡ or_at found met k }
-{
-    if let Found::At(place) = found {
-        return Found::At(place);
-    }
-    if met {
-        return Found::At(k);
-    }
-    Found::Nowhere
-}
+// The elements of a small mesh, and the numbers of an index for these and for the most.
+const FEW: usize = 10000;
+
+const SMALL: usize = LINKS + CORNERS * FEW;
+
+const LARGE: usize = LINKS + CORNERS * MOST_ROWS;
 
 // Numbers 6 and 7 in one pass: each element is held against those before it and then put into the index. The first of number 7 is kept until no number 6 has come.
-fn sift(elements: &[u32], grid: Grid, vertices: usize, index: &mut [u32]) -> Verdict
-    requires plain { Plain vertices (cells elements.now grid) }
-    requires filled { Filled (cells elements.now grid) 0 index.old }
-    ensures { Sifted (cells elements.now grid) result index.new }
+fn sift(mesh: &Mesh, index: &mut [u32]) -> Result<(), Refusal>
+    requires filled { Filled (cells_of mesh.now) 0 index.old }
+    ensures { Sifted (cells_of mesh.now) result index.new }
 {
-    let n = grid.count;
-    let mut uses = [0u32; MOST_VERTICES];
-    let mut third = Found::Nowhere;
-    let mut k = 0usize;
-    while k < n {
-        let met = meets(elements, grid, index, &uses, vertices, k);
+    let mut uses: Uses = [0; MOST_VERTICES];
+    let mut third = None;
+    for k in 0..mesh.grid.count {
+        let met = meets(mesh, index, &uses, k);
         if met.same {
-            return Verdict::Refused {
-                number: 6,
-                place: k,
-            };
+            return Err(Cause::Same.at(k));
         }
-        third = or_at(third, met.third, k);
-        fill(elements, grid, vertices, index, &mut uses, k);
-        k += 1;
+        third = third.or(met.third.then_some(k));
+        fill(mesh, index, &mut uses, k);
     }
-    verdict_at(third, 7, Verdict::Passed)
+    refused_at(third, Cause::Third)
 }
 
 // Tests 6 to 8 through an index that has room for all corners.
-fn judge_late(
-    elements: &[u32],
-    grid: Grid,
-    vertices: usize,
-    index: &mut [u32],
-    paint: &mut [u32],
-) -> Verdict
-    requires plain { Plain vertices (cells elements.now grid) }
-    requires filled { Filled (cells elements.now grid) 0 index.old }
+fn judge_late(mesh: &Mesh, index: &mut [u32], paint: &mut Paint) -> Result<(), Refusal>
+    requires filled { Filled (cells_of mesh.now) 0 index.old }
     requires clear { Clear paint.old }
-    ensures { Judged vertices (cells elements.now grid) result paint.new }
+    ensures { Judged mesh.now.vertices (cells_of mesh.now) result paint.new }
 {
-    let faces = sift(elements, grid, vertices, index);
-    if let Verdict::Refused { number, place } = faces {
-        return Verdict::Refused { number, place };
-    }
-    verdict_at(
-        colour_all(elements, grid, vertices, index, paint),
-        8,
-        Verdict::Passed,
-    )
+    sift(mesh, index)?;
+    refused_at(colour_all(mesh, index, paint), Cause::Colour)
 }
 
 // Tests 3 to 8 through an index without a slot; where they pass, the table has the colours.
-pub fn judge_given(
-    coordinates: &[f64],
-    elements: &[u32],
-    grid: Grid,
-    index: &mut [u32],
-    paint: &mut [u32],
-) -> Verdict
-    requires given { Given (length coordinates.now) (cells elements.now grid) index.old }
+pub fn judge_given(input: &Input, index: &mut [u32], paint: &mut Paint) -> Result<(), Refusal>
+    requires empty { Filled (cells_in input.now) 0 index.old }
     requires clear { Clear paint.old }
-    ensures { Passing coordinates.now (cells elements.now grid) result paint.new }
+    ensures { Passing input.now.coordinates.now (cells_in input.now) result paint.new }
 {
-    let numbers = judge_numbers(coordinates, elements, grid);
-    if let Verdict::Refused { number, place } = numbers {
-        return Verdict::Refused { number, place };
-    }
-    judge_late(elements, grid, coordinates.len() / POINT, index, paint)
+    judge_numbers(input.coordinates, input.elements, input.grid)?;
+    let mesh = Mesh {
+        elements: input.elements,
+        grid: input.grid,
+        vertices: input.coordinates.len() / POINT,
+    };
+    judge_late(&mesh, index, paint)
 }
 
-// The same with an index of its own; a small mesh has a small one.
-fn judge_alone(coordinates: &[f64], elements: &[u32], grid: Grid, paint: &mut [u32]) -> Verdict
-    requires moderate { Moderate (length coordinates.now) grid.count }
+// The same with an index of its own, of N numbers.
+fn judge_within<const N: usize>(input: &Input, paint: &mut Paint) -> Result<(), Refusal>
+    requires room { links_at + 4 * input.now.grid.count ≤ N }
+    requires most { N ≤ links_at + 4 * most_rows }
     requires clear { Clear paint.old }
-    ensures { Passing coordinates.now (cells elements.now grid) result paint.new }
+    ensures { Passing input.now.coordinates.now (cells_in input.now) result paint.new }
 {
-    if grid.count <= 10000 {
-        let mut small = [0u32; 60000];
-        return judge_given(coordinates, elements, grid, &mut small, paint);
+    let mut index = [0u32; N];
+    judge_given(input, &mut index, paint)
+}
+
+// The same; a small mesh has a small index.
+fn judge_alone(input: &Input, paint: &mut Paint) -> Result<(), Refusal>
+    requires { Clear paint.old }
+    ensures { Passing input.now.coordinates.now (cells_in input.now) result paint.new }
+{
+    if input.grid.count <= FEW {
+        return judge_within::<SMALL>(input, paint);
     }
-    let mut large = [0u32; 420000];
-    judge_given(coordinates, elements, grid, &mut large, paint)
+    judge_within::<LARGE>(input, paint)
 }
 
 // All tests; where they pass, the table has the colours.
@@ -115,18 +93,20 @@ pub fn judge(
     points: usize,
     records: usize,
     rows: usize,
-    paint: &mut [u32],
-) -> Verdict
+    paint: &mut Paint,
+) -> Result<(), Refusal>
     requires { Clear paint.old }
     ensures { Settled coordinates.now elements.now points records rows result paint.new }
 {
-    let lengths = judge_lengths(coordinates.len(), elements.len(), points, records, rows);
-    if let Verdict::Refused { number, place } = lengths {
-        return Verdict::Refused { number, place };
-    }
+    judge_lengths(coordinates.len(), elements.len(), points, records, rows)?;
     let grid = Grid {
         rows: false,
         count: elements.len() / CORNERS,
     };
-    judge_alone(coordinates, elements, grid, paint)
+    let input = Input {
+        coordinates,
+        elements,
+        grid,
+    };
+    judge_alone(&input, paint)
 }

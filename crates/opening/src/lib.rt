@@ -1,17 +1,19 @@
 // Opening a mesh: tests 1 to 8, the colours of Algorithm 2, the order of Definition 2, and the opened tables.
 #![tactic(auto)]
 
-use crate::answer::Opened;
-use intake::answer::Verdict;
+use crate::colours::Paint;
+use crate::mesh::Mesh;
 use intake::grid::{CORNERS, Grid};
-use tables::layout::{MOST_VERTICES, POINT, started};
+use tables::layout::{Counts, MOST_VERTICES, POINT, started};
+use tables::refusal::Refusal;
 
 pub mod agree;
-pub mod answer;
 mod colours;
 mod faces;
 mod index;
+mod input;
 mod judge;
+mod mesh;
 mod order;
 mod store;
 
@@ -25,7 +27,7 @@ ghost use Rattle.opening.specs.Scratch.{Storable};
 fn store_all(
     coordinates: &[f64],
     elements: &[u32],
-    paint: &[u32],
+    paint: &Paint,
     points: &mut [f64],
     records: &mut [u32],
     rows: &mut [u32],
@@ -33,15 +35,17 @@ fn store_all(
     requires { Storable coordinates.now elements.now paint.now (length points.old) (length records.old) (length rows.old) }
     ensures { lent points.new records.new rows.new ≡ laid (opened_mesh coordinates.now (quads elements.now)) (length points.old) (length records.old) (length rows.old) }
 {
-    let vertices = coordinates.len() / POINT;
-    let grid = Grid {
-        rows: false,
-        count: elements.len() / CORNERS,
+    let mesh = Mesh {
+        elements,
+        grid: Grid {
+            rows: false,
+            count: elements.len() / CORNERS,
+        },
+        vertices: coordinates.len() / POINT,
     };
-    let most = colours::largest_colour(paint, vertices);
     store::store_points(coordinates, points);
-    store::store_records(paint, vertices, records);
-    store::store_rows(elements, grid, paint, vertices, most, rows);
+    store::store_records(&mesh, paint, records);
+    store::store_rows(&mesh, paint, colours::largest_colour(&mesh, paint), rows);
 }
 
 // Opens the mesh of the given coordinates (three a vertex) and elements (four vertex numbers each) into the lent tables.
@@ -51,21 +55,18 @@ pub fn open(
     points: &mut [f64],
     records: &mut [u32],
     rows: &mut [u32],
-) -> Opened
+) -> Result<Counts, Refusal>
     ensures { Opens coordinates.now elements.now (lent points.old records.old rows.old) result (lent points.new records.new rows.new) }
 {
     let mut paint = [0u32; MOST_VERTICES];
-    let verdict = judge::judge(
+    judge::judge(
         coordinates,
         elements,
         points.len(),
         records.len(),
         rows.len(),
         &mut paint,
-    );
-    if let Verdict::Refused { number, place } = verdict {
-        return Opened::Refused { number, place };
-    }
+    )?;
     store_all(coordinates, elements, &paint, points, records, rows);
-    Opened::Done(started(coordinates.len() / POINT, elements.len() / CORNERS))
+    Ok(started(coordinates.len() / POINT, elements.len() / CORNERS))
 }

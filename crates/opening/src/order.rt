@@ -1,33 +1,33 @@
 // The order of a root's vertices: sorted by colour, the last in front exactly if its colour is N (Definition 2).
-ghost use Rattle.std.specs.Prelude.{◌≡◌, ◌<◌, length};
+ghost use Rattle.std.specs.Prelude.{◌≡◌, ◌<◌};
 ghost use Rattle.tables.specs.Layout.{most_vertices};
-ghost use Rattle.intake.specs.Cells.{cells};
 ghost use Rattle.split.specs.Split.{three};
 ghost use Rattle.forest.specs.Start.{arranged};
 ghost use Rattle.opening.specs.Order.{sorted, root_of};
-ghost use Rattle.opening.specs.Scratch.{paint_length, Plain, colour_in};
+ghost use Rattle.opening.specs.Mesh.{cells_of};
+ghost use Rattle.opening.specs.Scratch.{colour_in};
 ghost use Rattle.opening.specs.Sorting.{four, in_order, Low};
 
-use intake::grid::{Four, Grid, corners};
+use crate::colours::Paint;
+use crate::mesh::Mesh;
+use intake::grid::Four;
 use split::row::{Row, root};
 
-// Two vertices in the order of their colours.
+// Two vertices in the order of their colours. Five comparisons sort four: std sorts with a buffer from the heap, or may exchange equal ones, which `sorted` does not. That the vertices are `Low` is asked of each call: `Four` is intake's, whose numbers are any.
 #[derive(Clone, Copy)]
 pub struct Two {
     pub low: u32,
     pub high: u32,
 }
 
-fn colour_in(paint: &[u32], v: u32) -> u32
-    requires paint_len { length paint.now ≡ paint_length }
-    requires v_lt_most_vertices { v < most_vertices }
+fn colour_in(paint: &Paint, v: u32) -> u32
+    requires { v < most_vertices }
     ensures { result ≡ colour_in paint.now v }
 {
     paint[v as usize]
 }
 
-fn pair(paint: &[u32], a: u32, b: u32) -> Two
-    requires paint_len { length paint.now ≡ paint_length }
+fn pair(paint: &Paint, a: u32, b: u32) -> Two
     requires a_lt_most_vertices { a < most_vertices }
     requires b_lt_most_vertices { b < most_vertices }
     ensures { result ≡ in_order (colour_in paint.now) a b }
@@ -40,9 +40,8 @@ fn pair(paint: &[u32], a: u32, b: u32) -> Two
     Two { low: a, high: b }
 }
 
-fn sort(paint: &[u32], w: Four) -> Four
-    requires paint_len { length paint.now ≡ paint_length }
-    requires low { Low w }
+fn sort(paint: &Paint, w: Four) -> Four
+    requires { Low w }
     ensures { (four result ≡ sorted (colour_in paint.now) (four w)) × Low result }
 {
     let p = pair(paint, w.a, w.b);
@@ -58,9 +57,9 @@ fn sort(paint: &[u32], w: Four) -> Four
     }
 }
 
-fn arrange(paint: &[u32], n: u32, w: Four) -> Four
-    requires paint_len { length paint.now ≡ paint_length }
-    requires low { Low w }
+#[tactic(auto, unfolding(forest::specs::Start::arranged))]
+fn arrange(paint: &Paint, n: u32, w: Four) -> Four
+    requires { Low w }
     ensures { four result ≡ arranged three n (colour_in paint.now) (four w) }
 {
     let last = colour_in(paint, w.d);
@@ -76,21 +75,11 @@ fn arrange(paint: &[u32], n: u32, w: Four) -> Four
 }
 
 // Row k of the opened mesh, N being the largest colour.
-pub fn root_row(
-    elements: &[u32],
-    grid: Grid,
-    paint: &[u32],
-    vertices: usize,
-    n: u32,
-    k: usize,
-) -> Row
-    requires plain { Plain vertices (cells elements.now grid) }
-    requires paint_len { length paint.now ≡ paint_length }
-    requires k_lt_count { k < grid.count }
-    requires k_bound { k < 4294967296 }
-    ensures { result ≡ root_of n (colour_in paint.now) (cells elements.now grid) k }
+pub fn root_row(mesh: &Mesh, paint: &Paint, n: u32, k: usize) -> Row
+    requires { k < mesh.now.grid.count }
+    ensures { result ≡ root_of n (colour_in paint.now) (cells_of mesh.now) k }
 {
-    let w = corners(elements, grid, k);
+    let w = mesh.corners(k);
     let f = arrange(paint, n, sort(paint, w));
     root(3, k as u32, f.a, f.b, f.c, f.d)
 }

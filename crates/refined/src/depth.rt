@@ -1,76 +1,54 @@
 // A leaf of depth 60, marked: number 11, also where there is no room for another mark's split. One of depth 59 beside it: done (document 02, L9).
-ghost use Rattle.std.specs.Prelude.{◌≤◌};
 
-use crate::{cases, show};
-use opening::answer::Opened;
+use crate::calls::refine;
+use programs::lent::Tables;
+use split::row::Row;
 use std::io;
-use tables::layout::Counts;
+use tables::entry::Entry;
+use tables::layout::{Counts, MOST_ROWS, POINT, RECORD, ROW, started};
+use tables::refusal::Refusal;
 
-fn capped(n: usize) -> usize
-    ensures { result ≤ 100000 }
-{
-    if n < 100000 { n } else { 100000 }
+fn is_leaf(rows: &[u32], k: u32) -> bool {
+    Row::read(rows, k as usize).child == 0
 }
 
-// The deeper of two rows, where the second is a leaf of depth below the limit.
-fn deeper(rows: &[u32], limit: u32, best: u32, k: u32) -> u32 {
-    let old = tables::row::read(rows, best as usize);
-    let held = tables::row::read(rows, k as usize);
-    if held.child != 0 {
-        return best;
-    }
-    if limit <= held.depth {
-        return best;
-    }
-    if held.depth < old.depth {
-        return best;
-    }
-    k
+fn depth(rows: &[u32], k: u32) -> u32 {
+    Row::read(rows, k as usize).depth
 }
 
-// The row of the deepest leaf of depth below the limit among the first n, the last of several.
-fn deepest(rows: &[u32], n: usize, limit: u32) -> u32 {
-    let end = capped(n);
-    let mut best = 0u32;
-    let mut k = 0usize;
-    while k < end {
-        best = deeper(rows, limit, best, k as u32);
-        k += 1;
-    }
-    best
+// How many rows the mesh has.
+fn count(t: &Tables) -> u32 {
+    t.counts.rows.min(MOST_ROWS) as u32
 }
 
-fn step(points: &mut [f64], records: &mut [u32], rows: &mut [u32], c: Counts) -> Counts {
-    let mark = deepest(rows, c.rows, 61);
-    cases::after(closure::refine(points, records, rows, c, &[mark]), c)
+// The deepest leaf of depth below the limit, the last of several.
+fn deepest(t: &Tables, limit: u32) -> Option<u32> {
+    (0..count(t))
+        .filter(|k| is_leaf(t.rows, *k) && depth(t.rows, *k) < limit)
+        .max_by_key(|k| depth(t.rows, *k))
+}
+
+fn first_leaf(t: &Tables) -> Option<u32> {
+    (0..count(t)).find(|k| is_leaf(t.rows, *k))
+}
+
+// One call on the deepest leaf.
+fn step(t: &mut Tables) {
+    if let Some(mark) = deepest(t, 61) {
+        let before = t.counts;
+        let refined = closure::refine(t.points, t.records, t.rows, before, &[mark]);
+        t.counts = refined.map_or(before, |refined| refined.counts);
+    }
 }
 
 // Sixty calls, each on the deepest leaf.
-fn dig(points: &mut [f64], records: &mut [u32], rows: &mut [u32], c: Counts) -> Counts {
-    let mut d = c;
-    let mut i = 0usize;
-    while i < 60 {
-        d = step(points, records, rows, d);
-        i += 1;
+fn dig(t: &mut Tables) {
+    for _ in 0..60 {
+        step(t);
     }
-    d
 }
 
-// The first leaf among the first n rows, or 0.
-fn first_leaf(rows: &[u32], n: usize) -> u32 {
-    let end = capped(n);
-    let mut k = 0usize;
-    while k < end {
-        let held = tables::row::read(rows, k);
-        if held.child == 0 {
-            return k as u32;
-        }
-        k += 1;
-    }
-    0
-}
-
-// The marks on tables cut to what the mesh fills, so that no split has room.
+// The marks on tables cut to what the mesh fills, so that no split has room. Parts of all three fields of one `Tables`, lent together, get no proof.
 fn tight(
     rt: &impl Print,
     points: &mut [f64],
@@ -79,73 +57,57 @@ fn tight(
     c: Counts,
     marks: &[u32],
 ) -> io::Result<()> {
-    if points.len() / 3 < c.vertices {
+    let vertices = (points.len() / POINT).min(records.len() / RECORD);
+    if vertices < c.vertices || rows.len() / ROW < c.rows {
         return Ok(());
     }
-    if records.len() / 2 < c.vertices {
-        return Ok(());
-    }
-    if rows.len() / 8 < c.rows {
-        return Ok(());
-    }
-    let p = 3 * c.vertices;
-    let v = 2 * c.vertices;
-    let w = 8 * c.rows;
-    let r = closure::refine(
-        &mut points[0..p],
-        &mut records[0..v],
-        &mut rows[0..w],
-        c,
-        marks,
-    );
-    show::answer(rt, r)
+    let mut filled = Tables {
+        points: &mut points[..POINT * c.vertices],
+        records: &mut records[..RECORD * c.vertices],
+        rows: &mut rows[..ROW * c.rows],
+        counts: c,
+    };
+    refine(rt, &mut filled, marks)
 }
 
-fn marked(
-    rt: &impl Print,
-    points: &mut [f64],
-    records: &mut [u32],
-    rows: &mut [u32],
-    c: Counts,
-) -> io::Result<()> {
-    show::number(rt, c.vertices)?;
-    show::number(rt, c.rows)?;
-    let deep = deepest(rows, c.rows, 61);
-    let held = tables::row::read(rows, deep as usize);
-    show::number(rt, held.depth as usize)?;
-    show::end_line(rt)?;
-    show::answer(rt, closure::refine(points, records, rows, c, &[deep]))?;
-    let leaf = first_leaf(rows, c.rows);
-    tight(rt, points, records, rows, c, &[leaf])?;
-    tight(rt, points, records, rows, c, &[leaf, deep])
+fn marked(rt: &impl Print, t: &mut Tables) -> io::Result<()> {
+    let (Some(deep), Some(leaf)) = (deepest(t, 61), first_leaf(t)) else {
+        return Ok(());
+    };
+    let c = t.counts;
+    println!(rt; " {} {} {}", c.vertices, c.rows, depth(t.rows, deep))?;
+    refine(rt, t, &[deep])?;
+    tight(rt, t.points, t.records, t.rows, c, &[leaf])?;
+    tight(rt, t.points, t.records, t.rows, c, &[leaf, deep])
 }
 
 // The deepest leaf that may be split, in the same mesh.
-fn spared(
-    rt: &impl Print,
-    points: &mut [f64],
-    records: &mut [u32],
-    rows: &mut [u32],
-    c: Counts,
-) -> io::Result<()> {
-    let leaf = deepest(rows, c.rows, 60);
-    let held = tables::row::read(rows, leaf as usize);
-    show::number(rt, held.depth as usize)?;
-    show::end_line(rt)?;
-    show::answer(rt, closure::refine(points, records, rows, c, &[leaf]))
+fn spared(rt: &impl Print, t: &mut Tables) -> io::Result<()> {
+    if let Some(leaf) = deepest(t, 60) {
+        println!(rt; " {}", depth(t.rows, leaf))?;
+        refine(rt, t, &[leaf])?;
+    }
+    Ok(())
+}
+
+// One element, all of whose vertices lie at one point.
+fn open(t: &mut Tables) -> Result<(), Refusal> {
+    t.counts = opening::open(&[0.5; 12], &[0, 1, 2, 3], t.points, t.records, t.rows)?;
+    Ok(())
 }
 
 pub fn run(rt: &impl Print) -> io::Result<()> {
     print!(rt; "depth")?;
-    let line = [0.5f64; 12];
-    let mut points = [7.0f64; 1800];
-    let mut records = [7u32; 1200];
-    let mut rows = [7u32; 32000];
-    let r = opening::open(&line, &[0, 1, 2, 3], &mut points, &mut records, &mut rows);
-    if let Opened::Done(c) = r {
-        let d = dig(&mut points, &mut records, &mut rows, c);
-        marked(rt, &mut points, &mut records, &mut rows, d)?;
-        return spared(rt, &mut points, &mut records, &mut rows, d);
+    let mut t = Tables {
+        points: &mut [7.0; 1800],
+        records: &mut [7; 1200],
+        rows: &mut [7; 32000],
+        counts: started(0, 0),
+    };
+    if open(&mut t).is_ok() {
+        dig(&mut t);
+        marked(rt, &mut t)?;
+        spared(rt, &mut t)?;
     }
     Ok(())
 }

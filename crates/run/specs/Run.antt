@@ -1,12 +1,10 @@
 -- Closure (01, "Closure"; 000, Algorithm 3, with an order), on records and rows.
-use Rattle.std.specs.Prelude.{◌≡◌, Bool, ◌&&◌, ◌||◌, cond, List, [], ◌∷◌, ◌++◌, ℕ, zero, suc, ◌≤◌, ◌<◌, eqb, length, set}
+use Rattle.std.specs.Prelude.{◌≡◌, Bool, ◌&&◌, ◌||◌, cond, List, [], ◌∷◌, ◌++◌, ℕ, zero, suc, ◌≤◌, ◌<◌, eqb, length, set, None, Option, Some}
 use Rattle.split.specs.declared.row.Row.{Row}
 use Rattle.split.specs.declared.row.Ends.{Ends}
 use Rattle.split.specs.Row.{edge_of, with_child, first_of, second_of}
 use Rattle.tables.specs.declared.layout.Size.{Size}
 use Rattle.tables.specs.declared.record.Record.{Record}
-use Rattle.intake.specs.declared.answer.Found.{Found}
-use Rattle.intake.specs.declared.answer.Found.TheVariants.{At, Nowhere}
 use Rattle.run.specs.Skeleton.{Skeleton, row_in}
 
 -- ---- the patch of an edge
@@ -32,12 +30,12 @@ unfoldable pub same_ends : Ends → Ends → Bool
 same_ends e f = eqb e.small f.small && eqb e.large f.large
 
 -- the first of the given leaves whose own edge is not e
-unfoldable pub other_in : List Row → Ends → List ℕ → Found
-other_in W e [] = Nowhere
-other_in W e (r ∷ rs) = cond (same_ends (edge_of (row_in W r)) e) (other_in W e rs) (At r)
+unfoldable pub other_in : List Row → Ends → List ℕ → Option ℕ
+other_in W e [] = None
+other_in W e (r ∷ rs) = cond (same_ends (edge_of (row_in W r)) e) (other_in W e rs) (Some r)
 
 -- the leaf that is refined before r, if any (01, "Closure")
-abbrev pub blocking : List Row → ℕ → Found
+abbrev pub blocking : List Row → ℕ → Option ℕ
 blocking W r = other_in W (edge_of (row_in W r)) (holders W (edge_of (row_in W r)))
 
 -- ---- the split of a patch
@@ -65,8 +63,8 @@ split_patch S r = record {
 
 -- refining leaf r leads from S to S' (01, "Closure")
 pub data Run : Skeleton → ℕ → Skeleton → Type 0 where
-  clear : {S S' : Skeleton} {r : ℕ} → blocking S.rows r ≡ Nowhere → S' ≡ split_patch S r → Run S r S'
-  blocked : {S T S' : Skeleton} {r b : ℕ} → blocking S.rows r ≡ At b → Run S b T → Run T r S' → Run S r S'
+  clear : {S S' : Skeleton} {r : ℕ} → blocking S.rows r ≡ None → S' ≡ split_patch S r → Run S r S'
+  blocked : {S T S' : Skeleton} {r b : ℕ} → blocking S.rows r ≡ Some b → Run S b T → Run T r S' → Run S r S'
 
 -- the marks in list order: a row already split is passed over (01, "Closure")
 pub data RunAll : Skeleton → List ℕ → Skeleton → Type 0 where
@@ -91,9 +89,9 @@ pub data Over (room : Size) (S : Skeleton) : Type 0 where
 
 -- refining leaf r comes to a patch whose split has no room
 pub data Stuck (room : Size) : Skeleton → ℕ → Type 0 where
-  full : {S : Skeleton} {r : ℕ} → blocking S.rows r ≡ Nowhere → Over room (split_patch S r) → Stuck room S r
-  below : {S : Skeleton} {r b : ℕ} → blocking S.rows r ≡ At b → Stuck room S b → Stuck room S r
-  after : {S T : Skeleton} {r b : ℕ} → blocking S.rows r ≡ At b → Run S b T → Within room T → Stuck room T r → Stuck room S r
+  full : {S : Skeleton} {r : ℕ} → blocking S.rows r ≡ None → Over room (split_patch S r) → Stuck room S r
+  below : {S : Skeleton} {r b : ℕ} → blocking S.rows r ≡ Some b → Stuck room S b → Stuck room S r
+  after : {S T : Skeleton} {r b : ℕ} → blocking S.rows r ≡ Some b → Run S b T → Within room T → Stuck room T r → Stuck room S r
 
 pub data StuckAll (room : Size) : Skeleton → List ℕ → Type 0 where
   here : {S : Skeleton} {r : ℕ} {rs : List ℕ} → (row_in S.rows r).child ≡ 0 → Stuck room S r → StuckAll room S (r ∷ rs)

@@ -1,6 +1,5 @@
 -- W1 to W10 (01, "Small meshes worked out") as one table: what is opened, the calls, and the whole tables after them. `Comes` is what is proved of each case.
-use Rattle.std.specs.Prelude.{◌≡◌, cond, List, [], ◌∷◌, ◌++◌, map, ℕ, zero, suc, ◌+◌, ◌*◌, ◌/◌, eqb, length, replicate, Float}
-use Rattle.std.proofs.Math.Option.{Option, none, some}
+use Rattle.std.specs.Prelude.{◌≡◌, cond, List, [], ◌∷◌, ◌++◌, map, ℕ, zero, suc, ◌+◌, ◌*◌, ◌/◌, eqb, length, replicate, Float, Ok, Option, Some, None}
 use Rattle.split.specs.declared.row.Row.{Row}
 use Rattle.split.specs.Split.{left, right}
 use Rattle.tables.specs.declared.record.Record.{Record}
@@ -8,8 +7,7 @@ use Rattle.tables.specs.Layout.{no_float, point_width, record_width, row_width, 
 use Rattle.tables.specs.Mesh.{Mesh}
 use Rattle.forest.specs.Element.{Element, el}
 use Rattle.intake.specs.Cells.{quads}
-use Rattle.intake.specs.declared.answer.Verdict.{Verdict}
-use Rattle.intake.specs.declared.answer.Verdict.TheVariants.{Passed}
+use Rattle.intake.specs.Verdict.{Verdict}
 use Rattle.opening.specs.Opening.{initial, judged, opened_mesh}
 use Rattle.sound.specs.Sound.{row_of}
 use Rattle.sound.specs.Forest.{element_of}
@@ -104,7 +102,7 @@ splits_of c S = splits_below (meshed [] S) (length c.elements / 4) (length S.row
 
 -- the case comes out as the table says: opening accepts, the calls lead from what is opened to the tables written there, and these split the elements written there
 pub record Comes (c : Case) : Type 0 where
-  pub opens : verdict c ≡ Passed
+  pub opens : verdict c ≡ Ok tt
   pub runs : Calls (start c) c.calls (end c)
   pub splits : splits_of c (end c) ≡ c.splits
 
@@ -116,8 +114,8 @@ pub record Outcome : Type 0 where
   pub splits : List Element
 
 abbrev pub seen : Case → Option Skeleton → Option Outcome
-seen c none = none
-seen c (some S) = some (record { opens = verdict c; tables = S; splits = splits_of c S })
+seen c None = None
+seen c (Some S) = Some (record { opens = verdict c; tables = S; splits = splits_of c S })
 
 -- by the definitions of opening and closure
 unfoldable pub computed : Case → Option Outcome
@@ -125,4 +123,4 @@ computed c = seen c (refine_calls 4 (start c) c.calls)
 
 -- by the table
 unfoldable pub expected : Case → Option Outcome
-expected c = some (record { opens = Passed; tables = end c; splits = c.splits })
+expected c = Some (record { opens = Ok tt; tables = end c; splits = c.splits })

@@ -1,3 +1,4 @@
+pub mod Ranges
 pub mod Fitted
 pub mod Zero
 pub mod Family

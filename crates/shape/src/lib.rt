@@ -9,39 +9,39 @@ mod unused;
 mod used;
 
 ghost use Rattle.sound.specs.Check.{Decides};
-ghost use Rattle.shape.specs.Shape.{Inside, Half, Shapes};
+ghost use Rattle.shape.specs.Shape.{Half, Shapes};
 
-use crate::answer::Shape;
+use crate::answer::Runs;
+use crate::family::Counted;
 use tables::layout::Counts;
 
 // Clauses 2, 4 and 5, and that each midpoint was made. That no later row is a root needs no pass of its own: a child's parent is older than it.
-fn half(records: &[u32], rows: &[u32], c: Counts, i: usize, t: usize) -> bool
-    requires { Inside records.now rows.now c }
-    ensures { Decides (Half records.now rows.now c i t) result }
+fn half(tables: &Counted, runs: Runs) -> bool
+    ensures { Decides (Half tables.now.records.now tables.now.rows.now tables.now.counts runs.initials runs.roots) result }
 {
-    if !parts::no_initial_from(records, i, c.vertices) {
-        return false;
-    }
-    if !used::children_fit(records, rows, c, i, t) {
-        return false;
-    }
-    family::parents_follow(rows, c, t)
+    parts::no_initial_from(tables.records, runs.initials, tables.counts.vertices)
+        && used::children_fit(tables, runs)
+        && tables.parents_follow(runs.roots)
 }
 
-// Whether the tables and counts have the shape of sound ones, and where then the leading runs end.
-pub fn shaped(points: &[f64], records: &[u32], rows: &[u32], c: Counts) -> Shape
+// Where the leading runs end if the tables and counts have the shape of sound ones.
+pub fn shaped(points: &[f64], records: &[u32], rows: &[u32], c: Counts) -> Option<Runs>
     ensures { Shapes points.now records.now rows.now c result }
 {
     if !fitting::fits(points, records, rows, c) {
-        return Shape::Not;
+        return None;
     }
     if !unused::unused_zero(points, records, rows, c) {
-        return Shape::Not;
+        return None;
     }
-    let initials = parts::initials(records, c.vertices);
-    let roots = parts::roots(rows, c.rows);
-    if half(records, rows, c, initials, roots) {
-        return Shape::Runs { initials, roots };
-    }
-    Shape::Not
+    let runs = Runs {
+        initials: parts::initials(records, c.vertices),
+        roots: parts::roots(rows, c.rows),
+    };
+    let tables = Counted {
+        records,
+        rows,
+        counts: c,
+    };
+    half(&tables, runs).then_some(runs)
 }

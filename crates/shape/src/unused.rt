@@ -1,66 +1,38 @@
 // Clause 8: unused rows are zero in every bit.
-ghost use Rattle.std.specs.Prelude.{◌≡◌, ◌&&◌, ◌-◌, ◌≤◌, length, drop, replicate};
+ghost use Rattle.std.specs.Prelude.{◌≡◌, ◌≤◌, length, drop};
 ghost use Rattle.tables.specs.Layout.{no_float};
 ghost use Rattle.tables.specs.Mesh.{Unused};
 ghost use Rattle.sound.specs.Sound.{Fitting};
 ghost use Rattle.sound.specs.Check.{Decides, lent};
+ghost use Rattle.shape.specs.Shape.{EachPasses};
 
 use tables::layout::{Counts, POINT, RECORD, ROW};
 
-fn both(a: bool, b: bool) -> bool
-    ensures { result ≡ (a && b) }
+// The whole rest is read, with no stop where the test fails: a loop without a way out takes several numbers at a time.
+fn all_from<T: Copy, F: Fn(T) -> bool>(table: &[T], from: usize, test: F) -> bool
+    requires callable { F.IsAlwaysCallable test }
+    requires from_in_bounds { from ≤ length table.now }
+    ensures { EachPasses (F.post test) (drop from table.now) result }
 {
-    if a { b } else { false }
-}
-
-// The whole rest is read, with no stop at a number that is not zero: a loop without a way out takes several numbers at a time.
-fn numbers_zero(table: &[u32], from: usize) -> bool
-    requires { from ≤ length table.now }
-    ensures { Decides (drop from table.now ≡ replicate (length table.now - from) 0) result }
-{
-    let n = table.len();
     let mut clean = true;
-    let mut i = from;
-    while i < n {
-        clean = both(table[i] == 0, clean);
-        i += 1;
+    for &x in &table[from..] {
+        clean &= test(x);
     }
     clean
 }
 
-// Plus zero and no other float: minus zero differs from it in one bit.
+// Plus zero and no other float: minus zero, which `==` takes for it, differs in one bit.
 fn is_zero(x: f64) -> bool
     ensures { Decides (x ≡ no_float) result }
 {
-    if x != x {
-        return false;
-    }
-    f64::to_bits(x) == 0
-}
-
-fn floats_zero(table: &[f64], from: usize) -> bool
-    requires { from ≤ length table.now }
-    ensures { Decides (drop from table.now ≡ replicate (length table.now - from) no_float) result }
-{
-    let n = table.len();
-    let mut clean = true;
-    let mut i = from;
-    while i < n {
-        clean = both(is_zero(table[i]), clean);
-        i += 1;
-    }
-    clean
+    !x.is_nan() && x.to_bits() == 0
 }
 
 pub fn unused_zero(points: &[f64], records: &[u32], rows: &[u32], c: Counts) -> bool
     requires { Fitting (lent points.now records.now rows.now) c }
     ensures { Decides (Unused (lent points.now records.now rows.now) c) result }
 {
-    if !floats_zero(points, POINT * c.vertices) {
-        return false;
-    }
-    if !numbers_zero(records, RECORD * c.vertices) {
-        return false;
-    }
-    numbers_zero(rows, ROW * c.rows)
+    all_from(points, POINT * c.vertices, is_zero)
+        && all_from(records, RECORD * c.vertices, |x| x == 0)
+        && all_from(rows, ROW * c.rows, |x| x == 0)
 }

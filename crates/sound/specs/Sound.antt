@@ -1,5 +1,5 @@
 -- Sound tables (01, "Sound tables"), clause by clause in the document's words: clauses 2 to 7 on the mesh, then 1 and 8 on the tables. It does not say how tables came about: children and midpoints may be numbered as no call would number them.
-use Rattle.std.specs.Prelude.{◌≡◌, List, map, ℕ, ◌+◌, ◌/◌, ◌%◌, ◌≤◌, ◌<◌, length, get_or, take, Float}
+use Rattle.std.specs.Prelude.{◌≡◌, List, map, ℕ, ◌+◌, ◌/◌, ◌%◌, ◌≤◌, ◌<◌, length, get_or, take, Float, Ok}
 use Rattle.split.specs.declared.row.Row.{Row}
 use Rattle.split.specs.declared.row.Ends.{Ends}
 use Rattle.split.specs.declared.point.Point.{Point}
@@ -11,7 +11,6 @@ use Rattle.tables.specs.declared.layout.Counts.{Counts}
 use Rattle.tables.specs.declared.record.Record.{Record}
 use Rattle.tables.specs.Layout.{no_point, no_record, no_row, point_width, record_width, row_width, point_cells, room_of}
 use Rattle.tables.specs.Mesh.{Lent, Mesh, mesh_of, flat, Unused}
-use Rattle.intake.specs.declared.answer.Verdict.TheVariants.{Passed}
 use Rattle.intake.specs.Cells.{Cells}
 use Rattle.intake.specs.Verdict.{plain}
 use Rattle.opening.specs.Opening.{late, opened_mesh}
@@ -57,7 +56,7 @@ root_cells m t = elements_of (take t m.rows) t
 
 pub record Afresh (m : Mesh) (i t : ℕ) : Type 0 where
   pub some : 1 ≤ t
-  pub opens : plain (given_points m i) (root_cells m t) (late (root_cells m t) (length (given_points m i) / point_width)) ≡ Passed
+  pub opens : plain (given_points m i) (root_cells m t) (late (root_cells m t) (length (given_points m i) / point_width)) ≡ Ok tt
   pub colours : (opened_mesh (given_points m i) (root_cells m t)).records ≡ take i m.records
   pub rows : (opened_mesh (given_points m i) (root_cells m t)).rows ≡ map childless (take t m.rows)
 

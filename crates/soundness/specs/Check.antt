@@ -1,5 +1,5 @@
 -- What the parts of the check decide beside the shape: clauses 3, 6 and 7. Callers are promised nothing of it but `SoundIn`, by `check_in`.
-use Rattle.std.specs.Prelude.{◌≡◌, Bool, true, false, List, [], ℕ, ◌+◌, ◌-◌, ◌*◌, ◌%◌, ◌≤◌, ◌<◌, min, max, length, get_or, Float}
+use Rattle.std.specs.Prelude.{◌≡◌, Bool, true, List, [], ℕ, ◌+◌, ◌-◌, ◌*◌, ◌%◌, ◌≤◌, ◌<◌, min, max, length, get_or, Float}
 use Rattle.split.specs.Split.{Holds}
 use Rattle.split.specs.Row.{corners_of}
 use Rattle.split.specs.Midpoint.{between}
@@ -10,6 +10,8 @@ use Rattle.tables.specs.Layout.{point_at, record_at, row_at, most_rows, most_ver
 use Rattle.sound.specs.Sound.{Afresh, Fitting, Sound}
 use Rattle.sound.specs.Check.{Decides, lent, bare}
 use Rattle.shape.specs.Shape.{Children, Parents, middle_at}
+use Rattle.soundness.specs.declared.heads.Heads.{Heads}
+use Rattle.soundness.specs.declared.heads.Heads.TheVariants.{Few, Many}
 
 -- the parents of v are smaller than it and in order, and its coordinates follow the rule
 pub record Ruled (p : List Float) (r : List ℕ) (v : ℕ) : Type 0 where
@@ -22,18 +24,18 @@ pub record Run (i n : ℕ) : Type 0 where
   pub order : i ≤ n
   pub few : n ≤ most_vertices
 
--- the keys of the index of a small mesh, or of any; its links come after as many heads
-abbrev pub heads : Bool → ℕ
-heads true = 16382
-heads false = 80000
+-- the keys of the index in small memory, or in more; its links come after as many heads
+abbrev pub heads : Heads → ℕ
+heads Few = 16382
+heads Many = 80000
 
 -- the key of a pair: a remainder by a prime, so that pairs with the same smaller vertex, or the same larger one, seldom have the same key, and never where the prime is above every vertex
-unfoldable pub key_of : Bool → ℕ → ℕ → ℕ
-key_of small a b = (a * 7919 + b) % (heads small - 1)
+unfoldable pub key_of : Heads → ℕ → ℕ → ℕ
+key_of h a b = (a * 7919 + b) % (heads h - 1)
 
 -- the key at place s of the index, that of vertex i + s
-abbrev pub pair_at : Bool → List ℕ → ℕ → ℕ → ℕ
-pair_at small r i s = key_of small (record_at r (i + s)).first (record_at r (i + s)).second
+abbrev pub pair_at : Heads → List ℕ → ℕ → ℕ → ℕ
+pair_at h r i s = key_of h (record_at r (i + s)).first (record_at r (i + s)).second
 
 -- the parents of v are a and b
 pub record Has (r : List ℕ) (v a b : ℕ) : Type 0 where
@@ -52,14 +54,14 @@ abbrev pub AllSingle : List ℕ → ℕ → ℕ → Type 0
 AllSingle r i n = (v : ℕ) → i ≤ v → v < n → Single r i v
 
 -- a scratch table with room for an index of 20,000 places, and no head set
-pub record Fresh (small : Bool) (scratch : List ℕ) : Type 0 where
-  pub size : heads small + most_vertices ≤ length scratch
-  pub clear : (v : ℕ) → v < heads small → get_or scratch v 0 ≡ 0
+pub record Fresh (h : Heads) (scratch : List ℕ) : Type 0 where
+  pub size : heads h + most_vertices ≤ length scratch
+  pub clear : (v : ℕ) → v < heads h → get_or scratch v 0 ≡ 0
 
 -- the answer b: no pair stands twice, and then all are in the index
-pub record Entered (small : Bool) (r : List ℕ) (i n : ℕ) (b : Bool) (scratch : List ℕ) : Type 0 where
+pub record Entered (h : Heads) (r : List ℕ) (i n : ℕ) (b : Bool) (scratch : List ℕ) : Type 0 where
   pub decides : Decides (AllSingle r i n) b
-  pub index : b ≡ true → Indexed (pair_at small r i) (n - i) (heads small) scratch
+  pub index : b ≡ true → Indexed (pair_at h r i) (n - i) (heads h) scratch
 
 -- the parents of each midpoint stand in order
 pub record Rising (r : List ℕ) (i n : ℕ) : Type 0 where

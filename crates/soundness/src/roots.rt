@@ -6,6 +6,7 @@ ghost use Rattle.sound.specs.Sound.{Afresh, Fitting};
 ghost use Rattle.sound.specs.Check.{Decides, lent};
 
 use intake::grid::CORNERS;
+use shape::answer::Runs;
 use tables::layout::{Counts, MOST_VERTICES, POINT};
 
 // The index of opening lies in front of the scratch table: one head a vertex, then the links.
@@ -14,16 +15,15 @@ pub fn afresh(
     records: &[u32],
     rows: &[u32],
     c: Counts,
-    i: usize,
-    t: usize,
+    runs: Runs,
     scratch: &mut [u32],
 ) -> bool
     requires fitting { Fitting (lent points.now records.now rows.now) c }
-    requires i_le_vertices { (i ≤ c.vertices) × (t ≤ c.rows) }
-    requires t_in_bounds { most_vertices + 4 * t ≤ length scratch.old }
-    ensures { Decides (Afresh (mesh_of (lent points.now records.now rows.now) c) i t) result }
+    requires runs_within { (runs.initials ≤ c.vertices) × (runs.roots ≤ c.rows) }
+    requires roots_in_bounds { most_vertices + 4 * runs.roots ≤ length scratch.old }
+    ensures { Decides (Afresh (mesh_of (lent points.now records.now rows.now) c) runs.initials runs.roots) result }
 {
-    let last = POINT * i;
-    let used = MOST_VERTICES + CORNERS * t;
-    opening::agree::agrees(&points[0..last], records, rows, t, &mut scratch[0..used])
+    let initial = &points[..POINT * runs.initials];
+    let index = &mut scratch[..MOST_VERTICES + CORNERS * runs.roots];
+    opening::agree::agrees(initial, records, rows, runs.roots, index)
 }

@@ -1,47 +1,38 @@
 // Clauses 3, 6 and 7 of tables that have the shape. The scratch table holds the index of pairs; what it holds before is of no account.
-ghost use Rattle.std.specs.Prelude.{true, ◌+◌, ◌≤◌, length};
+ghost use Rattle.std.specs.Prelude.{◌+◌, ◌≤◌, length};
 ghost use Rattle.tables.specs.Layout.{most_vertices};
 ghost use Rattle.sound.specs.Sound.{Sound};
 ghost use Rattle.sound.specs.Check.{Decides, lent};
 ghost use Rattle.shape.specs.Shape.{Shapely};
-ghost use Rattle.soundness.specs.Check.{Run, Rising, Pairs, heads, memory_for};
+ghost use Rattle.soundness.specs.Check as check;
+ghost use Rattle.soundness.specs.Check.{Run, Rising, heads, memory_for};
 
+use crate::heads::Heads;
+use crate::pairs::Pairs;
 use crate::{conform, midpoints, pairs, roots};
+use shape::answer::Runs;
 use tables::layout::Counts;
 
 // Of clause 6 that no pair stands twice, and clause 7.
-fn pairs_fit(
-    records: &[u32],
-    rows: &[u32],
-    c: Counts,
-    i: usize,
-    small: bool,
-    scratch: &mut [u32],
-) -> bool
+fn pairs_fit(records: &[u32], rows: &[u32], c: Counts, i: usize, scratch: &mut [u32]) -> bool
     requires run { Run i c.vertices }
     requires rising { Rising records.now i c.vertices }
-    requires most_vertices_in_bounds { heads small + most_vertices ≤ length scratch.old }
-    ensures { Decides (Pairs records.now rows.now c i) result }
+    requires most_vertices_in_bounds { heads Heads.Few + most_vertices ≤ length scratch.old }
+    ensures { Decides (check.Pairs records.now rows.now c i) result }
 {
-    let n = c.vertices;
-    pairs::clear_heads(small, scratch);
-    if !pairs::enter(records, small, i, n, scratch) {
+    let heads = Heads::fitting(scratch.len());
+    pairs::clear_heads(heads, scratch);
+    if !pairs::enter(records, heads, i, c.vertices, scratch) {
         return false;
     }
-    conform::conforms(records, rows, scratch, small, i, n, c.rows)
-}
-
-// The same with as many keys as the memory has room for.
-fn pairs_in(records: &[u32], rows: &[u32], c: Counts, i: usize, scratch: &mut [u32]) -> bool
-    requires run { Run i c.vertices }
-    requires rising { Rising records.now i c.vertices }
-    requires most_vertices_in_bounds { heads true + most_vertices ≤ length scratch.old }
-    ensures { Decides (Pairs records.now rows.now c i) result }
-{
-    if scratch.len() < 100000 {
-        return pairs_fit(records, rows, c, i, true, scratch);
-    }
-    pairs_fit(records, rows, c, i, false, scratch)
+    let pairs = Pairs {
+        records,
+        index: scratch,
+        heads,
+        first: i,
+        end: c.vertices,
+    };
+    conform::conforms(&pairs, rows, c.rows)
 }
 
 pub fn judge(
@@ -49,22 +40,20 @@ pub fn judge(
     records: &[u32],
     rows: &[u32],
     c: Counts,
-    i: usize,
-    t: usize,
+    runs: Runs,
     scratch: &mut [u32],
 ) -> bool
-    requires shapely { Shapely points.now records.now rows.now c i t }
+    requires shapely { Shapely points.now records.now rows.now c runs.initials runs.roots }
     requires rows_in_bounds { memory_for c.rows ≤ length scratch.old }
     ensures { Decides (Sound (lent points.now records.now rows.now) c) result }
 {
-    if !roots::afresh(points, records, rows, c, i, t, scratch) {
+    if !roots::afresh(points, records, rows, c, runs, scratch) {
         return false;
     }
+    let i = runs.initials;
     if c.vertices <= i {
         return true;
     }
-    if !midpoints::midpoints_follow(points, records, i, c.vertices) {
-        return false;
-    }
-    pairs_in(records, rows, c, i, scratch)
+    midpoints::midpoints_follow(points, records, i, c.vertices)
+        && pairs_fit(records, rows, c, i, scratch)
 }

@@ -3,7 +3,7 @@
 ghost use Rattle.std.specs.Prelude.{◌≡◌};
 ghost use Rattle.split.specs.Midpoint.{mean, between};
 
-#[derive(Clone, Copy)]
+#[derive(Clone, Copy, Debug, PartialEq)]
 pub struct Point {
     pub x: f64,
     pub y: f64,
@@ -16,6 +16,7 @@ fn halfway(a: f64, b: f64) -> f64
     (a + b) * 0.5
 }
 
+#[tactic(auto, unfolding(crate::specs::Midpoint::between))]
 pub fn midpoint(p: Point, q: Point) -> Point
     ensures { result ≡ between p q }
 {

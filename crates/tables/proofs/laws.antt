@@ -5,3 +5,4 @@ pub mod Rows
 pub mod View
 pub mod Append
 pub mod Show
+pub mod Steps

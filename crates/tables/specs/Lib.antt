@@ -1,3 +1,5 @@
 pub mod Layout
 pub mod Mesh
+pub mod Refusal
 pub mod Report
+pub mod Steps

@@ -14,18 +14,18 @@ pub const MOST_VERTICES: usize = 20000;
 
 pub const MOST_ROWS: usize = 100000;
 
-// The second number of an initial vertex.
+// The second number of an initial vertex, whose first is its colour: document 01 has the table so.
 pub const INITIAL: u32 = 4294967295;
 
-// What lent tables have room for.
-#[derive(Clone, Copy)]
+// What lent tables have room for. Not `Counts`, which are handed from call to call and will hold more.
+#[derive(Clone, Copy, Debug, PartialEq, Eq)]
 pub struct Size {
     pub vertices: usize,
     pub rows: usize,
 }
 
 // What is handed from call to call; made by `started` and `resized` only.
-#[derive(Clone, Copy)]
+#[derive(Clone, Copy, Debug, PartialEq, Eq)]
 pub struct Counts {
     pub vertices: usize,
     pub rows: usize,
@@ -52,7 +52,7 @@ pub fn resized(c: Counts, vertices: usize, rows: usize) -> Counts
 pub fn least(a: usize, b: usize) -> usize
     ensures { result ≡ min a b }
 {
-    if a < b { a } else { b }
+    a.min(b)
 }
 
 // The room of tables of these lengths.

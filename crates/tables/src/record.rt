@@ -1,39 +1,47 @@
 // One vertex of the vertex table, by value: a colour and `INITIAL`, or two parents.
-ghost use Rattle.std.specs.Prelude.{◌≡◌};
-ghost use Rattle.tables.specs.Layout.{record_at, put_record};
+ghost use Rattle.tables.specs.Layout.{no_record, record_at, put_record};
 
+use crate::entry::Entry;
 use crate::layout::RECORD;
 
-#[derive(Clone, Copy)]
+#[derive(Clone, Copy, Debug, PartialEq, Eq)]
 pub struct Record {
     pub first: u32,
     pub second: u32,
 }
 
-// Vertex k, or zeros where the table has no vertex k.
-pub fn read(table: &[u32], k: usize) -> Record
-    ensures { result ≡ record_at table.now k }
-{
-    if k < table.len() / RECORD {
-        let i = RECORD * k;
-        return Record {
-            first: table[i],
-            second: table[i + 1],
-        };
-    }
-    Record {
-        first: 0,
-        second: 0,
-    }
-}
+impl Entry for Record {
+    type Number = u32;
 
-// Stores vertex k; nothing changes where the table has no vertex k.
-pub fn write(table: &mut [u32], k: usize, r: Record)
-    ensures { table.new ≡ put_record table.old k r }
-{
-    if k < table.len() / RECORD {
-        let i = RECORD * k;
-        table[i] = r.first;
-        table[i + 1] = r.second;
+    ghost unused = { no_record };
+
+    ghost at = { record_at };
+
+    ghost put = { put_record };
+
+    fn unused() -> Record {
+        Record {
+            first: 0,
+            second: 0,
+        }
+    }
+
+    fn read(table: &[u32], k: usize) -> Record {
+        if k < table.len() / RECORD {
+            let i = RECORD * k;
+            return Record {
+                first: table[i],
+                second: table[i + 1],
+            };
+        }
+        Record::unused()
+    }
+
+    fn write(self, table: &mut [u32], k: usize) {
+        if k < table.len() / RECORD {
+            let i = RECORD * k;
+            table[i] = self.first;
+            table[i + 1] = self.second;
+        }
     }
 }

@@ -13,9 +13,13 @@ use Rattle.fields.specs.declared.line.Line.{Line}
 use Rattle.fields.specs.Digits.{decimal, sixteen}
 use Rattle.fields.specs.Field.{parts, tabbed}
 use Rattle.text.specs.Program.{Program}
-use Rattle.text.specs.Input.{Input, nothing, Taken, taken, fault, takes, refused, read_from, read_all}
+use Rattle.std.specs.Prelude.{Result, Ok, Err}
+use Rattle.tables.specs.declared.refusal.Cause.{Cause}
+use Rattle.tables.specs.declared.refusal.Cause.TheVariants as cause
+use Rattle.tables.specs.Refusal.{refused}
+use Rattle.text.specs.Input.{Input, nothing, takes, read_from, read_all}
 use Rattle.fields.specs.Line.{line_of}
-use Rattle.fields.proofs.Inverse.{Free, bare, more, parts_free, parts_split, Some, some, some_parts, Written, line_written, length_sixteen, decimal_length}
+use Rattle.fields.proofs.Inverse.{Free, bare, more, parts_free, parts_split, HasPart, some, some_parts, Written, line_written, length_sixteen, decimal_length}
 use Rattle.fields.proofs.Inverse as inverse
 
 -- ---- a text by its lines
@@ -45,18 +49,18 @@ free_take (suc n) (more f r) = more f (free_take n r)
 -- ---- one line of the text
 
 module _ (i : Input) (k : ℕ) where
-  read_end : (q : List ℕ) → 0 < length q → read_from i k (q ∷ []) ≡ refused 12 k
+  read_end : (q : List ℕ) → 0 < length q → read_from i k (q ∷ []) ≡ refused cause.Line k
   unfolding read_from
   read_end q h = rw (ne_eqb (length q) 0 (λ e. omega (arith, e)))
 
   module _ (p : List ℕ) where
-    read_taken : {ps : List (List ℕ)} → Some ps → (j : Input) → takes i (line_of p k) ≡ taken j → read_from i k (p ∷ ps) ≡ read_from j (suc k) ps
+    read_taken : {ps : List (List ℕ)} → HasPart ps → (j : Input) → takes i (line_of p k) ≡ Ok j → read_from i k (p ∷ ps) ≡ read_from j (suc k) ps
     unfolding read_from
     read_taken (some q qs) j e = rw (read_from, e)
 
-    read_fault : {ps : List (List ℕ)} → Some ps → (n : ℕ) → takes i (line_of p k) ≡ fault n → read_from i k (p ∷ ps) ≡ refused n k
+    read_fault : {ps : List (List ℕ)} → HasPart ps → (c : Cause) → takes i (line_of p k) ≡ Err c → read_from i k (p ∷ ps) ≡ refused c k
     unfolding read_from
-    read_fault (some q qs) n e = rw (read_from, e)
+    read_fault (some q qs) c e = rw (read_from, e)
 
 -- ---- how long a line is
 
@@ -81,11 +85,11 @@ mark_length : (l : List ℕ) (a : ℕ) → a < 100000 → l ≡ 77 ∷ tabbed (d
 mark_length l a ha e = rw (e, length_tabbed (decimal a) [], length_none) (omega (arith, decimal_length a ha))
 
 -- a long line is not well formed
-long_fault : (i : Input) (l : List ℕ) (k : ℕ) → 52 < length l → takes i (line_of l k) ≡ fault 12
+long_fault : (i : Input) (l : List ℕ) (k : ℕ) → 52 < length l → takes i (line_of l k) ≡ Err cause.Line
 unfolding takes
 long_fault i l k h = go (line_written l k)
   where
-    go : {v : Line} → Written l k v → takes i v ≡ fault 12
+    go : {v : Line} → Written l k v → takes i v ≡ Err cause.Line
     go (inverse.vertex a b c ha hb hc e) = absurd (omega (arith, vertex_length l a b c e))
     go (inverse.element a b c d ha hb hc hd e) = absurd (omega (arith, element_length l a b c d ha hb hc hd e))
     go (inverse.mark a ha e) = absurd (omega (arith, mark_length l a ha e))
@@ -110,16 +114,16 @@ room_start n h = record { v = 0; t = 0; coordinates = refl; elements = refl; ver
 room_some : {i : Input} {n : ℕ} → Room i n → 52 < n
 room_some r = omega (arith, r)
 
-cond_taken : (s t : Bool) (a j : Input) → cond s (cond t (fault 13) (taken a)) (fault 12) ≡ taken j → (t ≡ false) × (a ≡ j)
+cond_taken : (s t : Bool) (a j : Input) → cond s (cond t (Err cause.Lines) (Ok a)) (Err cause.Line) ≡ Ok j → (t ≡ false) × (a ≡ j)
 cond_taken true true a j e = let n : ◌≡◌ {A = ℕ} 0 1 = cc in absurd (omega (arith, n))
 cond_taken true false a j e = (refl, cc)
 cond_taken false t a j e = let n : ◌≡◌ {A = ℕ} 0 1 = cc in absurd (omega (arith, n))
 
-room_next : (i j : Input) (l : List ℕ) (k n : ℕ) → Room i (length l + suc n) → takes i (line_of l k) ≡ taken j → Room j n
+room_next : (i j : Input) (l : List ℕ) (k n : ℕ) → Room i (length l + suc n) → takes i (line_of l k) ≡ Ok j → Room j n
 unfolding takes
 room_next i j l k n r = go (line_written l k)
   where
-    go : {v : Line} → Written l k v → takes i v ≡ taken j → Room j n
+    go : {v : Line} → Written l k v → takes i v ≡ Ok j → Room j n
     go (inverse.vertex a b c ha hb hc e) q =
         let x = of_bits binary64 a ∷ of_bits binary64 b ∷ of_bits binary64 c ∷ [] in
         let w = cond_taken (eqb (length i.elements + length i.marks) 0) (ltb 768 (length i.coordinates + 3)) (record { coordinates = i.coordinates ++ x; elements = i.elements; marks = i.marks }) j q in
@@ -156,10 +160,10 @@ read_prefix {l} (last f) i k n r =
 read_prefix (next {p = p} {r = l} f h) i k n r = go (λ j m s. read_prefix h j (suc k) m s) (ltb (length p) n) refl
   where
     -- the cut is behind the line: by what the line does
-    whole : (m : ℕ) → Room i (length p + suc m) → ((j : Input) → Room j m → read_from j (suc k) (parts 10 (take m l)) ≡ read_from j (suc k) (parts 10 l)) → (t : Taken) → takes i (line_of p k) ≡ t → read_from i k (p ∷ parts 10 (take m l)) ≡ read_from i k (p ∷ parts 10 l)
-    whole m s c (taken j) e =
+    whole : (m : ℕ) → Room i (length p + suc m) → ((j : Input) → Room j m → read_from j (suc k) (parts 10 (take m l)) ≡ read_from j (suc k) (parts 10 l)) → (t : Result Input Cause) → takes i (line_of p k) ≡ t → read_from i k (p ∷ parts 10 (take m l)) ≡ read_from i k (p ∷ parts 10 l)
+    whole m s c (Ok j) e =
         read_taken i k p (some_parts 10 (take m l)) j e ∙ c j (room_next i j p k m s e) ∙ sym (read_taken i k p (some_parts 10 l) j e)
-    whole m s c (fault x) e = read_fault i k p (some_parts 10 (take m l)) x e ∙ sym (read_fault i k p (some_parts 10 l) x e)
+    whole m s c (Err x) e = read_fault i k p (some_parts 10 (take m l)) x e ∙ sym (read_fault i k p (some_parts 10 l) x e)
 
     go : ((j : Input) (m : ℕ) → Room j m → read_from j (suc k) (parts 10 (take m l)) ≡ read_from j (suc k) (parts 10 l)) → (t : Bool) → ltb (length p) n ≡ t → read_from i k (parts 10 (take n (p ++ (10 ∷ l)))) ≡ read_from i k (parts 10 (p ++ (10 ∷ l)))
     go c true e =
@@ -173,7 +177,7 @@ read_prefix (next {p = p} {r = l} f h) i k n r = go (λ j m s. read_prefix h j (
         let a = room_some r in
         let z = length-take-le n p b in
         rw (take-append-le n p (10 ∷ l) b, parts_free (free_take n f), parts_split f l)
-        (read_end i k (take n p) (omega (arith, z)) ∙ sym (read_fault i k p (some_parts 10 l) 12 (long_fault i p k (omega arith))))
+        (read_end i k (take n p) (omega (arith, z)) ∙ sym (read_fault i k p (some_parts 10 l) cause.Line (long_fault i p k (omega arith))))
 
 pub read_all_prefix : (l : List ℕ) (n : ℕ) → 22325 ≤ n → read_all (take n l) ≡ read_all l
 read_all_prefix l n h = read_prefix (lines_of l) nothing 1 n (room_start n h)

@@ -1,9 +1,9 @@
-pub mod Input
 pub mod Loop
 pub mod Putting
 pub mod Printing
 pub mod Mesh
 pub mod Answer
+pub mod Late
 pub mod Written
 pub mod Never
 pub mod Reached

@@ -1,5 +1,5 @@
 -- The program (01, "The program"): from the bytes read to the bytes written.
-use Rattle.std.specs.Prelude.{◌≡◌, cond, List, ◌++◌, map, ℕ, ◌/◌, ◌≤◌, eqb, length, get_or}
+use Rattle.std.specs.Prelude.{◌≡◌, cond, List, ◌++◌, map, ℕ, ◌/◌, ◌≤◌, eqb, length, get_or, Result, Ok, Err}
 use Rattle.std.proofs.lemmas.List.Edits.{sets}
 use Rattle.tables.specs.declared.layout.Counts.{Counts}
 use Rattle.tables.specs.Layout.{row_at}
@@ -7,20 +7,23 @@ use Rattle.tables.specs.Mesh.{Lent, mesh_of, laid}
 use Rattle.tables.specs.Report.{Report, refusal}
 use Rattle.forest.specs.Shallow as forest
 use Rattle.intake.specs.Cells.{quads}
-use Rattle.opening.specs.declared.answer.Opened.{Opened}
-use Rattle.opening.specs.declared.answer.Opened.TheVariants as opened
 use Rattle.opening.specs.Opening as opening
 use Rattle.sound.specs.Forest.{element_of}
 use Rattle.closure.specs.declared.answer.Refined.{Refined}
-use Rattle.closure.specs.declared.answer.Refined.TheVariants as refined
 use Rattle.closure.specs.Refine as closure
 use Rattle.leaves.specs.Listing.{level_in, listing}
-use Rattle.text.specs.Input.{Input, Reading, all, refused, read_all}
+use Rattle.tables.specs.declared.refusal.Refusal.{Refusal}
+use Rattle.tables.specs.Refusal.{number_of}
+use Rattle.text.specs.Input.{Input, read_all}
 use Rattle.text.specs.Output.{c_line, l_line, p_lines, l_lines, texts}
 
 -- C, number, vertices, rows, splits; if refused C, number, place, 0, 0
 unfoldable pub headline : Report → List ℕ
 headline r = cond (eqb r.number 0) (c_line 0 r.counts.vertices r.counts.rows r.splits) (c_line r.number r.place 0 0)
+
+-- refused: C, the number of the cause, the place, 0, 0
+abbrev pub refusal_line : Refusal → List ℕ
+refusal_line r = headline (refusal (number_of r.cause) r.place)
 
 -- L lines of all leaves, in the order of the listing
 unfoldable pub leaf_lines : Lent → Counts → List ℕ
@@ -35,33 +38,33 @@ unfoldable pub rooted_lines : Lent → Counts → ℕ → List ℕ
 rooted_lines t c roots = let L = listing (mesh_of t c).rows in texts (λ j. rooted_line t c roots (get_or L j 0)) (length L)
 
 -- what is printed of refining a mesh of the given number of initial vertices: where it refused, the C line alone
-unfoldable pub refined_text : ℕ → Refined → Lent → List ℕ
-refined_text initial (refined.Refused n p) t = headline (closure.reported (refined.Refused n p))
-refined_text initial (refined.Done c splits) t = headline (closure.reported (refined.Done c splits)) ++ p_lines t.points t.records initial c.vertices ++ leaf_lines t c
+unfoldable pub refined_text : ℕ → Result Refined Refusal → Lent → List ℕ
+refined_text initial (Err r) t = headline (closure.reported (Err r))
+refined_text initial (Ok r) t = headline (closure.reported (Ok r)) ++ p_lines t.points t.records initial r.counts.vertices ++ leaf_lines t r.counts
 
 -- the text is that of refining once
 pub record Refining (t : Lent) (c : Counts) (marks text : List ℕ) : Type 0 where
-  pub answer : Refined
+  pub answer : Result Refined Refusal
   pub after : Lent
   pub refines : closure.Refines t c marks answer after
   pub prints : text ≡ refined_text c.vertices answer after
 
 -- tables of 512 vertices and 768 rows
-unfoldable pub opens : Input → Opened
+unfoldable pub opens : Input → Result Counts Refusal
 opens i = opening.answer (opening.judged i.coordinates i.elements 1536 1024 6144) (length i.coordinates / 3) (length i.elements / 4)
 
 unfoldable pub opened_tables : Input → Lent
 opened_tables i = laid (opening.opened_mesh i.coordinates (quads i.elements)) 1536 1024 6144
 
 -- the text is that of the opened mesh; where opening refused, the C line alone
-abbrev pub Outcome : Opened → Input → List ℕ → Type 0
-Outcome (opened.Refused n p) i text = text ≡ headline (opening.reported (opened.Refused n p))
-Outcome (opened.Done c) i text = Refining (opened_tables i) c i.marks text
+abbrev pub Outcome : Result Counts Refusal → Input → List ℕ → Type 0
+Outcome (Err r) i text = text ≡ headline (opening.reported (Err r))
+Outcome (Ok c) i text = Refining (opened_tables i) c i.marks text
 
 -- all lines are read before opening starts; where one is bad, the C line alone
-abbrev pub Answer : Reading → List ℕ → Type 0
-Answer (refused n p) text = text ≡ headline (refusal n p)
-Answer (all i) text = Outcome (opens i) i text
+abbrev pub Answer : Result Input Refusal → List ℕ → Type 0
+Answer (Err r) text = text ≡ refusal_line r
+Answer (Ok i) text = Outcome (opens i) i text
 
 -- the text is what the program writes for this input
 pub record Program (input text : List ℕ) : Type 0 where

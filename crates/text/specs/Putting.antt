@@ -1,6 +1,7 @@
 -- What the parts of the printer leave in the buffer. Nothing here is promised to callers.
 use Rattle.std.specs.Prelude.{◌≡◌, List, ℕ, ◌+◌, ◌≤◌, ◌<◌, length}
 use Rattle.std.proofs.lemmas.List.Edits.{sets}
+use Rattle.text.specs.declared.put.Page.{Page}
 
 -- there is room for w bytes from place `at` on
 pub record Room (w at : ℕ) : Type 0 where
@@ -11,6 +12,11 @@ pub record Puts (w : ℕ) (out : List ℕ) (at : ℕ) (text out' : List ℕ) (e 
   pub stores : out' ≡ sets out at text
   pub ends : e ≡ at + length text
   pub few : length text ≤ w
+
+-- the same of a page, which stays the one on the lent buffer
+pub record Adds (w : ℕ) (p : Page) (text : List ℕ) (p' : Page) : Type 0 where
+  pub same : p'.out.ghost_name ≡ p.out.ghost_name
+  pub puts : Puts w p.out.now p.at text p'.out.now p'.at
 
 pub record Spells (base short places at : ℕ) : Type 0 where
   pub some : 0 < base

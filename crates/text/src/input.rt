@@ -1,180 +1,80 @@
 // All of the input: lines in order, the first bad line ends it.
-ghost use Rattle.text.specs.Reading.{input_of, Fits, Sized, TakesVertex, TakesElement, TakesMark, Takes, Ready, Turns, Reads};
+ghost use Rattle.std.specs.Prelude.{◌≡◌, ◌<◌, length};
+ghost use Rattle.std.specs.Result.{result_and, result_map_both};
+ghost use Rattle.text.specs.Input.{takes, read_all as Input·read_all};
+ghost use Rattle.text.specs.Reading.{input_of, Appends, Turns};
 
+use arrayvec::ArrayVec;
 use fields::{Line, read_line, stop};
+use tables::refusal::{Cause, Refusal};
 
 pub const LINE_FEED: u8 = 10;
 
-// How much of each list is filled.
-#[derive(Clone, Copy)]
-pub struct Used {
-    pub coordinates: usize,
-    pub elements: usize,
-    pub marks: usize,
+// What the lines of each kind gave: 256 lines of a kind at most (document 01, "The program").
+#[derive(Default, Drop)]
+pub struct Lists {
+    pub coordinates: ArrayVec<f64, 768>,
+    pub elements: ArrayVec<u32, 1024>,
+    pub marks: ArrayVec<u32, 256>,
 }
 
-// What one line comes to: what is filled afterwards, or the number that refuses it.
-#[derive(Clone, Copy)]
-pub enum Step {
-    Taken(Used),
-    Fault(u32),
+impl Lists {
+    // One line more: all V, then T, then M.
+    #[tactic(auto, unfolding(crate::specs::Input::takes))]
+    fn take(&mut self, line: Line) -> Result<(), Cause>
+        ensures { takes (input_of self.old) line ≡ result_and result (Ok (input_of self.new)) }
+    {
+        match line {
+            Line::Vertex { x, y, z } => {
+                if !self.elements.is_empty() || !self.marks.is_empty() {
+                    return Err(Cause::Line);
+                }
+                append(&mut self.coordinates, &[x, y, z])
+            }
+            Line::Element { a, b, c, d } => {
+                if !self.marks.is_empty() {
+                    return Err(Cause::Line);
+                }
+                append(&mut self.elements, &[a, b, c, d])
+            }
+            Line::Mark(row) => append(&mut self.marks, &[row]),
+            Line::Refused(_) => Err(Cause::Line),
+        }
+    }
 }
 
-// Where to go on after a line, or the number that refuses it.
-#[derive(Clone, Copy)]
-pub enum Turn {
-    Next { at: usize, used: Used },
-    Fault(u32),
-}
-
-// All lists, or a refusal by number and line.
-#[derive(Clone, Copy)]
-pub enum Read {
-    All(Used),
-    Refused { number: u32, place: usize },
-}
-
-fn take_vertex(coordinates: &mut [f64; 768], used: Used, x: f64, y: f64, z: f64) -> Step
-    requires { Fits used }
-    ensures { TakesVertex used x y z coordinates.old result coordinates.new }
+// The numbers of one line more, or of one line too many.
+fn append<T: Copy, const N: usize>(list: &mut ArrayVec<T, N>, items: &[T]) -> Result<(), Cause>
+    ensures { Appends N list.old.items items.now result list.new.items }
 {
-    if 0 < used.elements {
-        return Step::Fault(12);
-    }
-    if 0 < used.marks {
-        return Step::Fault(12);
-    }
-    let n = used.coordinates;
-    if 768 < n + 3 {
-        return Step::Fault(13);
-    }
-    coordinates[n] = x;
-    coordinates[n + 1] = y;
-    coordinates[n + 2] = z;
-    Step::Taken(Used {
-        coordinates: n + 3,
-        elements: used.elements,
-        marks: used.marks,
-    })
+    list.try_extend_from_slice(items).map_err(|_| Cause::Lines)
 }
 
-fn take_element(elements: &mut [u32; 1024], used: Used, a: u32, b: u32, c: u32, d: u32) -> Step
-    requires { Fits used }
-    ensures { TakesElement used a b c d elements.old result elements.new }
-{
-    if 0 < used.marks {
-        return Step::Fault(12);
-    }
-    let n = used.elements;
-    if 1024 < n + 4 {
-        return Step::Fault(13);
-    }
-    elements[n] = a;
-    elements[n + 1] = b;
-    elements[n + 2] = c;
-    elements[n + 3] = d;
-    Step::Taken(Used {
-        coordinates: used.coordinates,
-        elements: n + 4,
-        marks: used.marks,
-    })
-}
-
-fn take_mark(marks: &mut [u32; 256], used: Used, row: u32) -> Step
-    requires { Fits used }
-    ensures { TakesMark used row marks.old result marks.new }
-{
-    let n = used.marks;
-    if 256 < n + 1 {
-        return Step::Fault(13);
-    }
-    marks[n] = row;
-    Step::Taken(Used {
-        coordinates: used.coordinates,
-        elements: used.elements,
-        marks: n + 1,
-    })
-}
-
-fn take(
-    line: Line,
-    used: Used,
-    coordinates: &mut [f64; 768],
-    elements: &mut [u32; 1024],
-    marks: &mut [u32; 256],
-) -> Step
-    requires fits { Fits used }
-    requires sized { Sized coordinates.old elements.old marks.old }
-    ensures { Takes (input_of coordinates.old elements.old marks.old used) line result coordinates.new elements.new marks.new }
-{
-    match line {
-        Line::Vertex { x, y, z } => take_vertex(coordinates, used, x, y, z),
-        Line::Element { a, b, c, d } => take_element(elements, used, a, b, c, d),
-        Line::Mark(row) => take_mark(marks, used, row),
-        Line::Refused(_) => Step::Fault(12),
-    }
-}
-
-// The line that starts at `at`, line k of the text.
-fn read_one(
-    text: &[u8],
-    at: usize,
-    k: usize,
-    used: Used,
-    coordinates: &mut [f64; 768],
-    elements: &mut [u32; 1024],
-    marks: &mut [u32; 256],
-) -> Turn
-    requires { Ready at text.now used coordinates.old elements.old marks.old }
-    ensures { Turns text.now at k (input_of coordinates.old elements.old marks.old used) result coordinates.new elements.new marks.new }
+// The line that starts at `at`, line k of the text; where the next one starts.
+fn read_one(text: &[u8], at: usize, k: usize, lists: &mut Lists) -> Result<usize, Refusal>
+    requires { at < length text.now }
+    ensures { Turns text.now at k (input_of lists.old) result (input_of lists.new) }
 {
     let end = stop(text, at, LINE_FEED);
     if end == text.len() {
-        return Turn::Fault(12);
+        return Err(Cause::Line.at(k));
     }
     let line = read_line(&text[at..end], k);
-    let step = take(line, used, coordinates, elements, marks);
-    match step {
-        Step::Taken(u) => Turn::Next {
-            at: end + 1,
-            used: u,
-        },
-        Step::Fault(n) => Turn::Fault(n),
-    }
+    lists.take(line).map_err(|cause| cause.at(k))?;
+    Ok(end + 1)
 }
 
 // Reads all lines into the lists, or finds the first bad line.
-pub fn read_all(
-    text: &[u8],
-    coordinates: &mut [f64; 768],
-    elements: &mut [u32; 1024],
-    marks: &mut [u32; 256],
-) -> Read
-    requires { Sized coordinates.old elements.old marks.old }
-    ensures { Reads text.now result coordinates.new elements.new marks.new }
+pub fn read_all(text: &[u8]) -> Result<Lists, Refusal>
+    ensures { result_map_both input_of (λ r. r) result ≡ Input·read_all text.now }
 {
-    let mut used = Used {
-        coordinates: 0,
-        elements: 0,
-        marks: 0,
-    };
+    let mut lists = Lists::default();
     let mut at = 0usize;
     let mut k = 0usize;
+    // No `for`: where the next line starts, and whether there is one, is known only behind this one.
     while at < text.len() {
         k += 1;
-        let turn = read_one(text, at, k, used, coordinates, elements, marks);
-        match turn {
-            Turn::Next { at: a, used: u } => {
-                at = a;
-                used = u;
-            }
-            Turn::Fault(n) => {
-                return Read::Refused {
-                    number: n,
-                    place: k,
-                };
-            }
-        }
+        at = read_one(text, at, k, &mut lists)?;
     }
-    Read::All(used)
+    Ok(lists)
 }

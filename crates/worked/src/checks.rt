@@ -1,19 +1,45 @@
 // The table check on W1, W5 and W7 as opened, and on W6: as a call leaves it, numbered as no call would, with each number of a table changed, and with odd lengths and counts.
-use crate::show;
-use opening::answer::Opened;
+use programs::show::YesNo;
 use std::io;
 use tables::layout::started;
 
-fn yes_or_no(rt: &impl Print, sound: bool) -> io::Result<()> {
-    if sound {
-        print!(rt; " yes")
-    } else {
-        print!(rt; " no")
-    }
+// Tables with room for seven vertices and seven rows.
+#[derive(Clone, Copy)]
+struct Mesh {
+    points: [f64; 21],
+    records: [u32; 14],
+    rows: [u32; 56],
 }
 
-fn raised(x: u32) -> u32 {
-    if x < 4294967295 { x + 1 } else { 0 }
+// W6 with room for one vertex and one row more.
+const W6: Mesh = Mesh {
+    points: [
+        0.0, 0.0, 0.0, 1.0, 0.0, 0.0, 0.0, 1.0, 0.0, 0.0, 0.0, 1.0, 1.0, 1.0, 1.0, 0.0, 0.5, 0.5,
+        0.0, 0.0, 0.0,
+    ],
+    records: [
+        0, 4294967295, 1, 4294967295, 2, 4294967295, 3, 4294967295, 0, 4294967295, 2, 3, 0, 0,
+    ],
+    rows: [
+        3, 0, 1, 2, 3, 0, 2, 0, 3, 4, 1, 2, 3, 1, 4, 0, 3, 0, 1, 5, 2, 0, 0, 1, 0, 1, 2, 5, 2, 0,
+        0, 1, 3, 4, 1, 5, 2, 1, 0, 1, 4, 1, 2, 5, 2, 1, 0, 1, 0, 0, 0, 0, 0, 0, 0, 0,
+    ],
+};
+
+// The rows of W6 with its two pairs of children the other way round.
+const EXCHANGED: [u32; 56] = [
+    3, 0, 1, 2, 3, 0, 4, 0, 3, 4, 1, 2, 3, 1, 2, 0, 3, 4, 1, 5, 2, 1, 0, 1, 4, 1, 2, 5, 2, 1, 0, 1,
+    3, 0, 1, 5, 2, 0, 0, 1, 0, 1, 2, 5, 2, 0, 0, 1, 0, 0, 0, 0, 0, 0, 0, 0,
+];
+
+// Shows what the check says of tables with the counts of W6.
+fn check(rt: &impl Print, points: &[f64], records: &[u32], rows: &[u32]) -> io::Result<()> {
+    let sound = soundness::check(points, records, rows, started(6, 6));
+    print!(rt; " {}", YesNo(sound))
+}
+
+fn check_mesh(rt: &impl Print, mesh: &Mesh) -> io::Result<()> {
+    check(rt, &mesh.points, &mesh.records, &mesh.rows)
 }
 
 // Opens into tables that hold 7 everywhere, and checks what is written there.
@@ -22,8 +48,9 @@ fn opened(rt: &impl Print, coordinates: &[f64], elements: &[u32]) -> io::Result<
     let mut records = [7u32; 12];
     let mut rows = [7u32; 32];
     let r = opening::open(coordinates, elements, &mut points, &mut records, &mut rows);
-    if let Opened::Done(c) = r {
-        return yes_or_no(rt, soundness::check(&points, &records, &rows, c));
+    if let Ok(c) = r {
+        let sound = soundness::check(&points, &records, &rows, c);
+        print!(rt; " {}", YesNo(sound))?;
     }
     Ok(())
 }
@@ -31,182 +58,79 @@ fn opened(rt: &impl Print, coordinates: &[f64], elements: &[u32]) -> io::Result<
 fn each_opened(rt: &impl Print) -> io::Result<()> {
     print!(rt; "opened")?;
     let line = [0.5f64; 15];
-    opened(rt, &line[0..12], &[0, 1, 2, 3])?;
+    opened(rt, &line[..12], &[0, 1, 2, 3])?;
     opened(rt, &line, &[0, 1, 2, 3, 1, 2, 3, 4])?;
     opened(rt, &line, &[0, 1, 2, 3, 0, 1, 3, 4, 0, 1, 2, 4])?;
-    show::end_line(rt)
+    println!(rt)
 }
 
-// Checks the tables with the number at place i raised by one, and puts it back.
-fn one_record(
-    rt: &impl Print,
-    points: &[f64],
-    records: &mut [u32],
-    rows: &[u32],
-    i: usize,
-) -> io::Result<()> {
-    if i < records.len() {
-        let old = records[i];
-        records[i] = raised(old);
-        let sound = soundness::check(points, records, rows, started(6, 6));
-        records[i] = old;
-        return yes_or_no(rt, sound);
-    }
-    Ok(())
-}
-
-fn one_row(
-    rt: &impl Print,
-    points: &[f64],
-    records: &[u32],
-    rows: &mut [u32],
-    i: usize,
-) -> io::Result<()> {
-    if i < rows.len() {
-        let old = rows[i];
-        rows[i] = raised(old);
-        let sound = soundness::check(points, records, rows, started(6, 6));
-        rows[i] = old;
-        return yes_or_no(rt, sound);
-    }
-    Ok(())
-}
-
-fn every_record(
-    rt: &impl Print,
-    points: &[f64],
-    records: &mut [u32],
-    rows: &[u32],
-) -> io::Result<()> {
+// Each number of the vertex table raised by one.
+fn every_record(rt: &impl Print) -> io::Result<()> {
     print!(rt; "records")?;
-    let mut i = 0usize;
-    while i < 14 {
-        one_record(rt, points, records, rows, i)?;
-        i += 1;
+    for i in 0..14 {
+        let mut mesh = W6;
+        mesh.records[i] = mesh.records[i].wrapping_add(1);
+        check_mesh(rt, &mesh)?;
     }
-    show::end_line(rt)
+    println!(rt)
 }
 
-fn every_row(rt: &impl Print, points: &[f64], records: &[u32], rows: &mut [u32]) -> io::Result<()> {
+// Each number of the element table raised by one.
+fn every_row(rt: &impl Print) -> io::Result<()> {
     print!(rt; "rows")?;
-    let mut i = 0usize;
-    while i < 56 {
-        one_row(rt, points, records, rows, i)?;
-        i += 1;
+    for i in 0..56 {
+        let mut mesh = W6;
+        mesh.rows[i] = mesh.rows[i].wrapping_add(1);
+        check_mesh(rt, &mesh)?;
     }
-    show::end_line(rt)
-}
-
-fn one_point(
-    rt: &impl Print,
-    points: &mut [f64],
-    records: &[u32],
-    rows: &[u32],
-    i: usize,
-    x: f64,
-) -> io::Result<()> {
-    if i < points.len() {
-        let old = points[i];
-        points[i] = x;
-        let sound = soundness::check(points, records, rows, started(6, 6));
-        points[i] = old;
-        return yes_or_no(rt, sound);
-    }
-    Ok(())
+    println!(rt)
 }
 
 // A coordinate of the midpoint, and minus zero past the count.
-fn some_points(
-    rt: &impl Print,
-    points: &mut [f64],
-    records: &[u32],
-    rows: &[u32],
-) -> io::Result<()> {
+fn some_points(rt: &impl Print) -> io::Result<()> {
     print!(rt; "points")?;
-    one_point(rt, points, records, rows, 15, 0.25)?;
-    one_point(rt, points, records, rows, 15, 0.0)?;
-    one_point(rt, points, records, rows, 18, -0.0)?;
-    show::end_line(rt)
+    for (i, x) in [(15, 0.25), (15, 0.0), (18, -0.0)] {
+        let mut mesh = W6;
+        mesh.points[i] = x;
+        check_mesh(rt, &mesh)?;
+    }
+    println!(rt)
 }
 
-fn odd_sizes(rt: &impl Print, points: &[f64], records: &[u32], rows: &[u32]) -> io::Result<()> {
+fn odd_sizes(rt: &impl Print) -> io::Result<()> {
     print!(rt; "sizes")?;
-    yes_or_no(rt, soundness::check(points, records, rows, started(0, 0)))?;
-    yes_or_no(rt, soundness::check(points, records, rows, started(6, 5)))?;
-    yes_or_no(rt, soundness::check(points, records, rows, started(5, 6)))?;
-    yes_or_no(rt, soundness::check(points, records, rows, started(7, 7)))?;
-    yes_or_no(
-        rt,
-        soundness::check(
-            points,
-            records,
-            rows,
-            started(18446744073709551615, 18446744073709551615),
-        ),
-    )?;
-    show::end_line(rt)
+    for (vertices, rows) in [(0, 0), (6, 5), (5, 6), (7, 7), (usize::MAX, usize::MAX)] {
+        let counts = started(vertices, rows);
+        let sound = soundness::check(&W6.points, &W6.records, &W6.rows, counts);
+        print!(rt; " {}", YesNo(sound))?;
+    }
+    println!(rt)
 }
 
-fn odd_lengths(rt: &impl Print, points: &[f64], records: &[u32], rows: &[u32]) -> io::Result<()> {
+fn odd_lengths(rt: &impl Print) -> io::Result<()> {
+    let Mesh {
+        points,
+        records,
+        rows,
+    } = W6;
     print!(rt; "lengths")?;
-    if points.len() < 21 {
-        return Ok(());
-    }
-    if records.len() < 14 {
-        return Ok(());
-    }
-    if rows.len() < 56 {
-        return Ok(());
-    }
-    yes_or_no(
-        rt,
-        soundness::check(&points[0..20], records, rows, started(6, 6)),
-    )?;
-    yes_or_no(
-        rt,
-        soundness::check(points, &records[0..13], rows, started(6, 6)),
-    )?;
-    yes_or_no(
-        rt,
-        soundness::check(points, records, &rows[0..55], started(6, 6)),
-    )?;
-    yes_or_no(
-        rt,
-        soundness::check(&points[0..18], &records[0..12], &rows[0..48], started(6, 6)),
-    )?;
-    show::end_line(rt)
+    check(rt, &points[..20], &records, &rows)?;
+    check(rt, &points, &records[..13], &rows)?;
+    check(rt, &points, &records, &rows[..55])?;
+    check(rt, &points[..18], &records[..12], &rows[..48])?;
+    println!(rt)
 }
 
-fn whole(rt: &impl Print, points: &[f64], records: &[u32], rows: &[u32]) -> io::Result<()> {
-    yes_or_no(rt, soundness::check(points, records, rows, started(6, 6)))
-}
-
-// W6 with room for one vertex and one row more; `own` has the two pairs of children the other way round.
 pub fn run(rt: &impl Print) -> io::Result<()> {
     println!(rt; "check")?;
     each_opened(rt)?;
-    let mut points = [
-        0.0, 0.0, 0.0, 1.0, 0.0, 0.0, 0.0, 1.0, 0.0, 0.0, 0.0, 1.0, 1.0, 1.0, 1.0, 0.0, 0.5, 0.5,
-        0.0, 0.0, 0.0,
-    ];
-    let mut records = [
-        0u32, 4294967295, 1, 4294967295, 2, 4294967295, 3, 4294967295, 0, 4294967295, 2, 3, 0, 0,
-    ];
-    let mut rows = [
-        3u32, 0, 1, 2, 3, 0, 2, 0, 3, 4, 1, 2, 3, 1, 4, 0, 3, 0, 1, 5, 2, 0, 0, 1, 0, 1, 2, 5, 2,
-        0, 0, 1, 3, 4, 1, 5, 2, 1, 0, 1, 4, 1, 2, 5, 2, 1, 0, 1, 0, 0, 0, 0, 0, 0, 0, 0,
-    ];
-    let own = [
-        3u32, 0, 1, 2, 3, 0, 4, 0, 3, 4, 1, 2, 3, 1, 2, 0, 3, 4, 1, 5, 2, 1, 0, 1, 4, 1, 2, 5, 2,
-        1, 0, 1, 3, 0, 1, 5, 2, 0, 0, 1, 0, 1, 2, 5, 2, 0, 0, 1, 0, 0, 0, 0, 0, 0, 0, 0,
-    ];
     print!(rt; "whole")?;
-    whole(rt, &points, &records, &rows)?;
-    whole(rt, &points, &records, &own)?;
-    show::end_line(rt)?;
-    every_record(rt, &points, &mut records, &rows)?;
-    every_row(rt, &points, &records, &mut rows)?;
-    some_points(rt, &mut points, &records, &rows)?;
-    odd_sizes(rt, &points, &records, &rows)?;
-    odd_lengths(rt, &points, &records, &rows)
+    check_mesh(rt, &W6)?;
+    check(rt, &W6.points, &W6.records, &EXCHANGED)?;
+    println!(rt)?;
+    every_record(rt)?;
+    every_row(rt)?;
+    some_points(rt)?;
+    odd_sizes(rt)?;
+    odd_lengths(rt)
 }

@@ -1,6 +1,6 @@
 // The midpoint rule on halves, subnormals, both zeros, the largest coordinate and what is not finite.
-use crate::bound::bound;
-use crate::show;
+use crate::LAST;
+use programs::show::Bits;
 use split::point::Point;
 use std::io;
 
@@ -8,21 +8,16 @@ fn line(rt: &impl Print, x: f64, y: f64) -> io::Result<()> {
     let p = Point { x, y, z: 1.0 };
     let q = Point { x: y, y: x, z: 0.0 };
     let m = split::point::midpoint(p, q);
-    show::coordinate(rt, m.x)?;
-    show::coordinate(rt, m.y)?;
-    show::coordinate(rt, m.z)?;
-    show::end_line(rt)
+    println!(rt; " {} {} {}", Bits(m.x), Bits(m.y), Bits(m.z))
 }
 
 // The largest coordinate, and what lies past every number.
 fn far_out(rt: &impl Print) -> io::Result<()> {
-    let most = bound().last;
-    line(rt, most, most)?;
-    line(rt, most, -most)?;
-    line(rt, most, 1.0)?;
-    let infinite = most * most;
-    line(rt, infinite, 0.0)?;
-    line(rt, infinite, -infinite)
+    line(rt, LAST, LAST)?;
+    line(rt, LAST, -LAST)?;
+    line(rt, LAST, 1.0)?;
+    line(rt, f64::INFINITY, 0.0)?;
+    line(rt, f64::INFINITY, f64::NEG_INFINITY)
 }
 
 pub fn run(rt: &impl Print) -> io::Result<()> {

@@ -1,23 +1,15 @@
 // W1, W5 and W7 of document 01 as opened, and a refusal by each number that opening gives but 8 (`colours`).
-use crate::bound::bound;
-use crate::show;
-use opening::answer::Opened;
+use crate::{LAST, PAST};
+use programs::show::Numbers;
 use std::io;
+use tables::layout::Counts;
+use tables::refusal::Refusal;
 
-pub fn answer(rt: &impl Print, r: Opened) -> io::Result<()> {
-    match r {
-        Opened::Done(c) => {
-            print!(rt; "done")?;
-            show::count(rt, c.vertices)?;
-            show::count(rt, c.rows)?;
-        }
-        Opened::Refused { number, place } => {
-            print!(rt; "refused")?;
-            show::number(rt, number)?;
-            show::count(rt, place)?;
-        }
+pub fn answer(rt: &impl Print, opened: Result<Counts, Refusal>) -> io::Result<()> {
+    match opened {
+        Ok(c) => println!(rt; "done {} {}", c.vertices, c.rows),
+        Err(refusal) => println!(rt; "refused {refusal}"),
     }
-    show::end_line(rt)
 }
 
 // Opens the first vertices of a line of points into tables for six vertices and four rows that hold 7 everywhere.
@@ -25,12 +17,9 @@ fn open(rt: &impl Print, coordinates: &[f64], elements: &[u32]) -> io::Result<()
     let mut points = [7.0f64; 18];
     let mut records = [7u32; 12];
     let mut rows = [7u32; 32];
-    answer(
-        rt,
-        opening::open(coordinates, elements, &mut points, &mut records, &mut rows),
-    )?;
-    show::table(rt, &records)?;
-    show::table(rt, &rows)
+    let opened = opening::open(coordinates, elements, &mut points, &mut records, &mut rows);
+    answer(rt, opened)?;
+    println!(rt; "{}\n{}", Numbers(&records), Numbers(&rows))
 }
 
 fn accepted(rt: &impl Print) -> io::Result<()> {
@@ -55,16 +44,15 @@ fn refused(rt: &impl Print) -> io::Result<()> {
 
 // The largest coordinate of either sign, and what opening does not take.
 fn limits(rt: &impl Print) -> io::Result<()> {
-    let b = bound();
     let mut line = [0.0f64; 12];
-    line[5] = b.last;
-    line[9] = -b.last;
+    line[5] = LAST;
+    line[9] = -LAST;
     open(rt, &line, &[0, 1, 2, 3])?;
-    line[7] = b.past;
+    line[7] = PAST;
     open(rt, &line, &[0, 1, 2, 3])?;
-    line[3] = b.last * b.last;
+    line[3] = f64::INFINITY;
     open(rt, &line, &[0, 1, 2, 3])?;
-    line[2] = line[3] - line[3];
+    line[2] = f64::NAN;
     open(rt, &line, &[0, 1, 2, 3])
 }
 

@@ -1,5 +1,4 @@
 // W2, W3, W4 and W8 of document 01, row by row, and rows that no table has.
-use crate::show;
 use split::row::Row;
 use std::io;
 
@@ -8,9 +7,9 @@ fn root(v0: u32, v1: u32, v2: u32, v3: u32, own: u32) -> Row {
 }
 
 fn both(rt: &impl Print, r: Row, own: u32, m: u32) -> io::Result<()> {
-    show::edge(rt, split::row::edge(r))?;
-    show::row(rt, split::row::first(r, own, m))?;
-    show::row(rt, split::row::second(r, own, m))
+    println!(rt; "edge {}", split::row::edge(r))?;
+    println!(rt; "row {}", split::row::first(r, own, m))?;
+    println!(rt; "row {}", split::row::second(r, own, m))
 }
 
 fn one_element(rt: &impl Print) -> io::Result<()> {
@@ -33,12 +32,14 @@ fn three_elements(rt: &impl Print) -> io::Result<()> {
 
 fn outside(rt: &impl Print) -> io::Result<()> {
     println!(rt; "tags 0 and 4294967295, the largest depth")?;
-    let mut r = root(9, 7, 5, 4294967295, 8);
-    r.tag = 0;
-    both(rt, r, 8, 6)?;
-    r.tag = 4294967295;
-    r.depth = 4294967295;
-    both(rt, r, 8, 6)
+    let r = root(9, 7, 5, 4294967295, 8);
+    both(rt, Row { tag: 0, ..r }, 8, 6)?;
+    let deep = Row {
+        tag: 4294967295,
+        depth: 4294967295,
+        ..r
+    };
+    both(rt, deep, 8, 6)
 }
 
 pub fn run(rt: &impl Print) -> io::Result<()> {

@@ -36,14 +36,16 @@ fn counts(mesh: &Mesh) -> tables::layout::Counts {
     tables::layout::started(vertices, rows)
 }
 
+fn numbered(refusal: tables::refusal::Refusal) -> Refusal {
+    (refusal.cause.into(), refusal.place)
+}
+
 impl Side for Lampethor {
     fn open(input: &Input, mesh: &mut Mesh) -> Result<(), Refusal> {
-        use opening::answer::Opened;
         let (points, records, rows) = (&mut mesh.points, &mut mesh.records, &mut mesh.rows);
-        match opening::open(&input.coordinates, &input.elements, points, records, rows) {
-            Opened::Done(c) => mesh.counts = (c.vertices, c.rows),
-            Opened::Refused { number, place } => return Err((number, place)),
-        }
+        let opened = opening::open(&input.coordinates, &input.elements, points, records, rows);
+        let c = opened.map_err(numbered)?;
+        mesh.counts = (c.vertices, c.rows);
         Ok(())
     }
 
@@ -52,47 +54,34 @@ impl Side for Lampethor {
     }
 
     fn refine(mesh: &mut Mesh, marks: &[u32]) -> Result<usize, Refusal> {
-        use closure::answer::Refined;
         let c = counts(mesh);
-        match closure::refine(
-            &mut mesh.points,
-            &mut mesh.records,
-            &mut mesh.rows,
-            c,
-            marks,
-        ) {
-            Refined::Done { counts, splits } => {
-                mesh.counts = (counts.vertices, counts.rows);
-                Ok(splits)
-            }
-            Refined::Refused { number, place } => Err((number, place)),
-        }
+        let (points, records, rows) = (&mut mesh.points, &mut mesh.records, &mut mesh.rows);
+        let done = closure::refine(points, records, rows, c, marks).map_err(numbered)?;
+        mesh.counts = (done.counts.vertices, done.counts.rows);
+        Ok(done.splits)
     }
 
     fn list(mesh: &Mesh, listing: &mut Listing) -> Result<(), Refusal> {
-        use leaves::answer::Listed;
         let (rows, levels) = (&mut listing.rows, &mut listing.levels);
-        match leaves::leaves(
+        let listed = leaves::leaves(
             &mesh.points,
             &mesh.records,
             &mesh.rows,
             counts(mesh),
             rows,
             levels,
-        ) {
-            Listed::Done(number) => listing.number = number,
-            Listed::Refused { number, place } => return Err((number, place)),
-        }
+        );
+        listing.number = listed.map_err(numbered)?;
         Ok(())
     }
 
     fn split(mesh: &Mesh, children: &mut [u32]) {
-        use split::row::{first, second};
-        use tables::row::{read, write};
+        use split::row::{first, second, Row};
+        use tables::entry::Entry;
         for k in 0..mesh.counts.1 {
-            let (row, own, m) = (read(&mesh.rows, k), k as u32, midpoint(mesh, k));
-            write(children, 2 * k, first(row, own, m));
-            write(children, 2 * k + 1, second(row, own, m));
+            let (row, own, m) = (Row::read(&mesh.rows, k), k as u32, midpoint(mesh, k));
+            first(row, own, m).write(children, 2 * k);
+            second(row, own, m).write(children, 2 * k + 1);
         }
     }
 }

@@ -23,8 +23,7 @@ use Rattle.run.proofs.laws.Needs.{AllMarkable}
 use Rattle.run.proofs.laws.Marks.{Finished}
 use Rattle.run.proofs.laws.Demanded.{run_finished, demanded}
 use Rattle.run.proofs.laws.Points.{points_length}
-use Rattle.closure.specs.declared.answer.Refined.TheVariants.{Done}
-use Rattle.closure.specs.Refine.{room_in, Refines}
+use Rattle.closure.specs.Refine.{refined_to, room_in, Refines}
 use Rattle.closure.proofs.laws.Entry.{Roomy, roomy}
 use Rattle.closure.proofs.laws.Promise.{one_initials, one_roots, done_counts, done_splits}
 use Rattle.closure.proofs.laws.Within.{run_within}
@@ -43,7 +42,7 @@ pub record Counted (m m' : Mesh) (c d : Counts) (n : ℕ) : Type 0 where
   pub vertices : c.vertices ≤ d.vertices
   pub splits : splits_in m' ≡ splits_in m + n
 
-module _ {t : Lent} {c : Counts} (s : Sound t c) {marks : List ℕ} {d : Counts} {n : ℕ} {t' : Lent} (x : Refines t c marks (Done d n) t') where
+module _ {t : Lent} {c : Counts} (s : Sound t c) {marks : List ℕ} {d : Counts} {n : ℕ} {t' : Lent} (x : Refines t c marks (refined_to d n) t') where
   abbrev got : Taken RunAll t c s.initials s.roots marks d n t'
   got = taken s x
 

@@ -1,63 +1,51 @@
 -- The search for the first listed leaf with another edge.
 use mathlib.Core.Path.{◌≡◌, refl, sym, ◌∙◌}
 use mathlib.Core.Bool.{Bool, true, false, not, cond}
-use mathlib.Core.List.{List, ◌∷◌}
+use mathlib.Core.List.{List, [], ◌∷◌}
 use Prim.Native.Nat.{ℕ, suc, ◌+◌, ◌-◌, ◌≤◌, ◌<◌}
 use native.Mathlib.Omega.{arith}
-use native.Mathlib.Numerals.{add-one}
-use lib.Dec.{eqb}
-use lib.ListN.{length, get_or, drop}
-use borrow.Author.Tests.{eq-eqb, ne_eqb, not-true, not-false}
-use borrow.Author.Rules.{rules}
+use lib.ListN.{length, get_or, take, drop, length-drop}
+use lib.Seq.{length-take-le}
+use Rattle.std.proofs.Common.{Option, Some, find}
+use Rattle.std.proofs.lemmas.List.{get_or-take, get_or-drop, ext_get_or}
 use Rattle.split.specs.declared.row.Ends.{Ends}
 use Rattle.split.specs.Row.{edge_of}
-use Rattle.intake.specs.declared.answer.Found.TheVariants.{At, Nowhere}
 use Rattle.tables.specs.Layout.{no_row, row_at}
-use Rattle.tables.proofs.laws.View.{up_to_at}
+use Rattle.tables.proofs.laws.View.{length_up_to, up_to_at}
 use Rattle.run.specs.Run.{same_ends, other_in}
 use Rattle.closure.specs.State.{rows_of, links_at, patch_in, Listed}
-use Rattle.closure.proofs.laws.Patch.{patch_at, patch_end}
 
-pub ends_differ : (e f : Ends) → (e.small ≡ f.small → ⊥) → false ≡ same_ends e f
-unfolding same_ends
-ends_differ e f d = rw (ne_eqb e.small f.small d)
+-- the patch is a part of the scratch table
+patch_part : (s : List ℕ) (k : ℕ) → links_at + k ≤ length s → take k (drop (length s - (links_at + k)) s) ≡ patch_in s k
+patch_part s k h =
+    ext_get_or 0 (take k (drop (length s - (links_at + k)) s)) (patch_in s k) (long ∙ sym (length_up_to listed k))
+    (λ j l. let h : j < k = omega (arith, l, long) in get_or-take k (drop (length s - (links_at + k)) s) j 0 h ∙ get_or-drop (length s - (links_at + k)) s j 0 ∙ sym (up_to_at listed k j 0 h))
+  where
+    listed : ℕ → ℕ
+    listed j = get_or s (length s - (links_at + k) + j) 0
 
-pub ends_last : (e f : Ends) → e.small ≡ f.small → eqb e.large f.large ≡ same_ends e f
-unfolding same_ends
-ends_last e f h = rw (eq-eqb e.small f.small h)
+    long : length (take k (drop (length s - (links_at + k)) s)) ≡ k
+    long = length-take-le k (drop (length s - (links_at + k)) s) (omega (arith, h, length-drop (length s - (links_at + k)) s))
 
-pub ruleset end_tests = (ends_differ, ends_last)
+-- among rows of the mesh it is the one that closure asks for
+find_other : (w : List ℕ) (n : ℕ) (e : Ends) (l : List ℕ) → ((j : ℕ) → j < length l → get_or l j 0 < n) → find (λ r. not (same_ends (edge_of (row_at w r)) e)) l ≡ other_in (rows_of w n) e l
+unfolding other_in
+find_other w n e [] h = refl
+find_other w n e (r ∷ l) h = rw (up_to_at (row_at w) n r no_row (h 0 (omega arith)), ← find_other w n e l (λ j k. h (suc j) (omega arith))) (turned (same_ends (edge_of (row_at w r)) e) (Some r) (find (λ r. not (same_ends (edge_of (row_at w r)) e)) l))
+  where
+    turned : (b : Bool) (x y : Option ℕ) → cond (not b) x y ≡ cond b y x
+    turned true x y = refl
+    turned false x y = refl
 
--- ---- the loop
+module _ (w s : List ℕ) (n k : ℕ) (e : Ends) (l : Listed s n k) where
+  -- the code asks the part of the scratch table
+  pub first_listed : {o : Option ℕ} → o ≡ find (λ r. not (same_ends (edge_of (row_at w r)) e)) (take (length s - (links_at + k) + k - (length s - (links_at + k))) (drop (length s - (links_at + k)) s)) → o ≡ other_in (rows_of w n) e (patch_in s k)
+  first_listed p =
+      let all : length s - (links_at + k) + k - (length s - (links_at + k)) ≡ k = omega arith in
+      p ∙ rw (all, patch_part s k l.size) (find_other w n e (patch_in s k) (λ j h. within j (omega (arith, h, length_up_to listed k))))
+    where
+      listed : ℕ → ℕ
+      listed j = get_or s (length s - (links_at + k) + j) 0
 
--- the first j leaves have the edge e
-pub record Looked (w s : List ℕ) (n k : ℕ) (e : Ends) (j : ℕ) : Type 0 where
-  pub within : j ≤ k
-  pub rest : other_in (rows_of w n) e (drop j (patch_in s k)) ≡ other_in (rows_of w n) e (patch_in s k)
-
-module _ {w s : List ℕ} {n k : ℕ} (e : Ends) (l : Listed s n k) where
-  pub looked_start : Looked w s n k e 0
-  looked_start = record { within = omega arith; rest = refl }
-
-  module _ {j r : ℕ} {b : Bool} (x : Looked w s n k e j) (h : j < k) (is : r ≡ get_or s (length s - (links_at + k) + j) 0) (test : b ≡ same_ends (edge_of (row_at w r)) e) where
-    next : drop j (patch_in s k) ≡ r ∷ drop (suc j) (patch_in s k)
-    next = patch_at s k j h ∙ rw (← is)
-
-    row_is : row_at w r ≡ get_or (rows_of w n) r no_row
-    row_is = sym (up_to_at (row_at w) n r no_row (omega (arith, is, l.listed j h)))
-
-    found : cond b (other_in (rows_of w n) e (drop (suc j) (patch_in s k))) (At r) ≡ other_in (rows_of w n) e (patch_in s k)
-    unfolding other_in
-    found = rw (test, row_is) (rw next at x.rest)
-
-    pub looked_stop : not b ≡ true → At r ≡ other_in (rows_of w n) e (patch_in s k)
-    looked_stop f = rw (not-true b f) at found
-
-    pub looked_next : not b ≡ false → Looked w s n k e (j + 1)
-    looked_next f = record { within = omega arith; rest = rw (add-one j) (rw (not-false b f) at found) }
-
-  pub looked_end : {j : ℕ} → Looked w s n k e j → k ≤ j → Nowhere ≡ other_in (rows_of w n) e (patch_in s k)
-  unfolding other_in
-  looked_end {j} x h = let last : j ≡ k = omega (arith, x.within) in rw (last, patch_end s k) at x.rest
-
-pub ruleset looking = (looked_start, looked_stop, looked_next, looked_end, rules)
+      within : (j : ℕ) → j < k → get_or (patch_in s k) j 0 < n
+      within j h = rw (up_to_at listed k j 0 h) (l.listed j h)

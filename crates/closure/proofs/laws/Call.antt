@@ -1,4 +1,8 @@
 -- A call on sound tables: undone it leaves them as they were, and done it leaves the run's mesh laid out.
+use Rattle.std.proofs.Common.{None, Ok, Result}
+use Rattle.tables.specs.declared.refusal.Cause.TheVariants.{Room, Unsound}
+use Rattle.tables.specs.declared.refusal.Refusal.{Refusal}
+use Rattle.tables.specs.Refusal.{refusal_at}
 use mathlib.Core.Path.{◌≡◌, refl, sym, ap, subst, ◌∙◌}
 use mathlib.Core.Bool.{Bool, true, false, not, ◌&&◌, cond}
 use mathlib.Core.List.{List}
@@ -10,15 +14,14 @@ use lib.ListN.{length, get_or, drop, replicate, length-replicate}
 use lib.Ieee.{Float}
 use borrow.Author.Tests.{le-leb, lt-leb, lt-ltb, le-ltb, not-true, not-false}
 use borrow.Author.Rules.{rules}
+use Rattle.std.specs.Prelude.{Result, Ok, Err}
 use Rattle.split.proofs.laws.Places.{le_or_lt}
 use Rattle.tables.specs.declared.layout.Counts.{Counts}
 use Rattle.tables.specs.declared.layout.Size.{Size}
 use Rattle.tables.specs.Layout.{record_width, row_width, no_row, no_record, no_float, point_cells, record_cells, row_cells, point_at, record_at, row_at, room_of, resized}
 use Rattle.tables.specs.Mesh.{Lent, mesh_of, laid, up_to, flat, padded}
 use Rattle.tables.proofs.laws.View.{length_up_to, up_to_at}
-use Rattle.intake.specs.declared.answer.Found.TheVariants.{Nowhere}
-use Rattle.intake.specs.declared.answer.Verdict.{Verdict}
-use Rattle.intake.specs.declared.answer.Verdict.TheVariants as verdict
+use Rattle.intake.specs.Verdict.{Verdict}
 use Rattle.intake.specs.Search.{first}
 use Rattle.chain.proofs.laws.Clearing.{zeros_at}
 use Rattle.sound.specs.Sound.{Sound}
@@ -35,14 +38,13 @@ use Rattle.frame.specs.Undo.{restored, emptied_records, undone}
 use Rattle.frame.proofs.laws.Marks.{told, Told, deeps}
 use Rattle.frame.proofs.laws.Marks as judged
 use Rattle.closure.specs.declared.answer.Refined.{Refined}
-use Rattle.closure.specs.declared.answer.Refined.TheVariants.{Done, Refused}
-use Rattle.closure.specs.declared.step.Step.{Step}
-use Rattle.closure.specs.declared.step.Step.TheVariants as step
+use Rattle.closure.specs.declared.step.Full.{Full}
 use Rattle.closure.specs.State.{rows_of, records_of, seen, scratch_for, State}
 use Rattle.closure.specs.Build.{Indexable}
 use Rattle.closure.specs.Marking.{AllDue, Ended, Failed, Marks}
-use Rattle.closure.specs.Refine.{absent, reported, Accepts, outgrown, fits, deep, shallow, missing, present, Refines, unsound, sound}
+use Rattle.closure.specs.Refine.{refined_to, absent, reported, Accepts, outgrown, fits, deep, shallow, missing, present, Refines, unsound, sound}
 use Rattle.closure.specs.Call.{Finishes, Closable, Closes, Spacious, Callable, Calls}
+use Rattle.closure.proofs.laws.Answers.{same_error}
 use Rattle.closure.proofs.laws.Tables.{rows_same, records_same}
 use Rattle.closure.proofs.laws.Blank.{rows_blank, records_blank, points_blank, rows_padded, records_padded, points_padded}
 use Rattle.closure.proofs.laws.Restored.{restored_row}
@@ -55,10 +57,10 @@ use Rattle.closure.proofs.laws.Promise.{refuses}
 -- ---- what a passed verdict tells
 
 pub record Fair (w : List ℕ) (n : ℕ) (marks : List ℕ) : Type 0 where
-  pub there : first (absent n marks) (length marks) ≡ Nowhere
+  pub there : first (absent n marks) (length marks) ≡ None
   pub shallow : deeps w n marks ≡ false
 
-fair : {w : List ℕ} {n : ℕ} {marks : List ℕ} → on_marks w n marks ≡ verdict.Passed → Fair w n marks
+fair : {w : List ℕ} {n : ℕ} {marks : List ℕ} → on_marks w n marks ≡ Ok tt → Fair w n marks
 fair {w} {n} {marks} e = elim (told w n marks) [
   | judged.missing p a b ↦ refused_never (sym b ∙ e)
   | judged.deep a d b ↦ refused_never (sym b ∙ e)
@@ -86,9 +88,12 @@ module _ {p : List Float} {r w s : List ℕ} {c : Counts} {marks : List ℕ} (x 
 
   -- ---- no room
 
-  module _ {o : Size} (eo : o ≡ room) {r' w' s' : List ℕ} {a : Step} (k : Marks r w c o marks a r' w' s') {d : Counts} (ea : a ≡ step.Full d) where
+  module _ {o : Size} (eo : o ≡ room) {r' w' s' : List ℕ} {a : Result Counts Full} (k : Marks r w c o marks a r' w' s') {e : Full} (ea : a ≡ Err e) where
+    abbrev d : Counts
+    d = e.counts
+
     abbrev f : Failed (seen r w c) marks o r' w' s' d
-    f = k.full d ea
+    f = k.full e ea
 
     abbrev er : length r' ≡ length r
     er = k.records_size
@@ -153,16 +158,16 @@ module _ {p : List Float} {r w s : List ℕ} {c : Counts} {marks : List ℕ} (x 
         rows = rows_same w w'' x.sound.fitting.rows (rows_undone.size ∙ ew) row_back j;
       }
 
-      pub close_full : Closes (lent p r w) c marks (Refused 2 0) (lent p r'' w'')
-      close_full = record {
+      pub close_full : {y : Refusal} → y ≡ refusal_at Room 0 → Closes (lent p r w) c marks (Err y) (lent p r'' w'')
+      close_full e = record {
         room = λ y. outgrown
             (rw (entry_mesh y) at (no_room (mesh_of (lent p r w) c).points y.initials y.roots (rw eo at f.stuck) (entry_ready y) entry_within fit.few_vertices (marks_markable y marks ok.there ok.shallow)))
-            (refuses refl tables_back);
+            (refuses (ap Err e) tables_back);
       }
 
   -- ---- all marks done
 
-  module _ {o : Size} (eo : o ≡ room) {r' w' s' : List ℕ} {b : Step} (k : Marks r w c o marks b r' w' s') {d : Counts} (eb : b ≡ step.Done d) where
+  module _ {o : Size} (eo : o ≡ room) {r' w' s' : List ℕ} {b : Result Counts Full} (k : Marks r w c o marks b r' w' s') {d : Counts} (eb : b ≡ Ok d) where
     abbrev ended : Ended (seen r w c) marks o r' w' s' d
     ended = k.done d eb
 
@@ -205,10 +210,13 @@ module _ {p : List Float} {r w s : List ℕ} {c : Counts} {marks : List ℕ} (x 
       rows_laid : w' ≡ padded (length w) 0 (flat row_cells (rows_of w' d.rows))
       rows_laid = rw lw at (rows_padded w' d.rows (rw lw x.sound.fitting.rows) (rw lw (omega (arith, inside.1, fit.rows_fit))) ended.tables.state.blank)
 
-      answered : a ≡ Done (resized c (length (records_of r' d.vertices)) (length (rows_of w' d.rows))) ((length (rows_of w' d.rows) - c.rows) / 2)
-      answered = g.answers ∙ (λ j. Done (resized c (sym (length_up_to (record_at r') d.vertices) j) (sym (length_up_to (row_at w') d.rows) j)) ((sym (length_up_to (row_at w') d.rows) j - c.rows) / 2))
+      answered : Ok a ≡ refined_to (resized c (length (records_of r' d.vertices)) (length (rows_of w' d.rows))) ((length (rows_of w' d.rows) - c.rows) / 2)
+      answered =
+          let counts = g.counts ∙ (λ j. resized c (sym (length_up_to (record_at r') d.vertices) j) (sym (length_up_to (row_at w') d.rows) j)) in
+          let splits = g.splits ∙ (λ j. (sym (length_up_to (row_at w') d.rows) j - c.rows) / 2) in
+          λ j. refined_to (counts j) (splits j)
 
-      accepted : Accepts RunAll (lent p r w) c marks a (lent p' r' w')
+      accepted : Accepts RunAll (lent p r w) c marks (Ok a) (lent p' r' w')
       unfolding mesh_of laid
       accepted = record {
         after = seen r' w' d;
@@ -218,7 +226,7 @@ module _ {p : List Float} {r w s : List ℕ} {c : Counts} {marks : List ℕ} (x 
         leaves = λ j. record { points = points_laid j; records = records_laid j; rows = rows_laid j };
       }
 
-      pub close_done : Closes (lent p r w) c marks a (lent p' r' w')
+      pub close_done : Closes (lent p r w) c marks (Ok a) (lent p' r' w')
       close_done = record {
         room = λ y. fits
             (λ z. enough_room (mesh_of (lent p r w) c).points y.initials y.roots ended.run (entry_ready y) (omega (arith, length_up_to (record_at r') d.vertices, inside.0, fit.few_vertices)) (marks_markable y marks ok.there ok.shallow) room
@@ -231,25 +239,19 @@ pub ruleset closing = (close_index, close_due, close_full, close_finish, close_d
 -- ---- the call
 
 module _ {p : List Float} {r w s : List ℕ} {c : Counts} (x : Callable p r w s c) {marks : List ℕ} {v : Verdict} (e : v ≡ on_marks w c.rows marks) where
-  refused : {n q : ℕ} → v ≡ verdict.Refused n q → Told w c.rows marks v → Calls (lent p r w) c marks (Refused n q) (lent p r w)
-  refused {n} {q} f (judged.missing k a b) = record { judged = λ y. missing k a (refuses (sym (same f b)) refl) }
-    where
-      same : v ≡ verdict.Refused n q → v ≡ verdict.Refused 10 k → Refused 10 k ≡ Refused n q
-      same f b = let z : verdict.Refused 10 k ≡ verdict.Refused n q = sym b ∙ f in cc
-  refused {n} {q} f (judged.deep a d b) = record { judged = λ y. present a (deep (marks_deep y marks a d) (refuses (sym (same f b)) refl)) }
-    where
-      same : v ≡ verdict.Refused n q → v ≡ verdict.Refused 11 0 → Refused 11 0 ≡ Refused n q
-      same f b = let z : verdict.Refused 11 0 ≡ verdict.Refused n q = sym b ∙ f in cc
-  refused f (judged.passed a d b) = refused_never (sym f ∙ b)
+  refused_told : {y : Refusal} → v ≡ Err y → Told w c.rows marks v → Calls (lent p r w) c marks (Err y) (lent p r w)
+  refused_told {y} f (judged.missing k a b) = record { judged = λ z. missing k a (refuses (ap Err (same_error _ _ (sym f ∙ b))) refl) }
+  refused_told {y} f (judged.deep a d b) = record { judged = λ z. present a (deep (marks_deep z marks a d) (refuses (ap Err (same_error _ _ (sym f ∙ b))) refl)) }
+  refused_told f (judged.passed a d b) = refused_never (sym f ∙ b)
 
-  pub call_refused : {n q : ℕ} → v ≡ verdict.Refused n q → Calls (lent p r w) c marks (Refused n q) (lent p r w)
-  call_refused f = refused f (rw e (told w c.rows marks))
+  pub call_refused : {y : Refusal} → v ≡ Err y → Calls (lent p r w) c marks (Err y) (lent p r w)
+  call_refused f = refused_told f (rw e (told w c.rows marks))
 
-  module _ (f : v ≡ verdict.Passed) where
+  module _ (f : v ≡ Ok tt) where
     pub call_closable : Closable p r w s c marks
     call_closable = record { sound = x.sound; fresh = x.fresh; passed = sym e ∙ f }
 
-    pub call_closed : {a : Refined} {t : Lent} → Closes (lent p r w) c marks a t → Calls (lent p r w) c marks a t
+    pub call_closed : {a : Result Refined Refusal} {t : Lent} → Closes (lent p r w) c marks a t → Calls (lent p r w) c marks a t
     call_closed g = let ok = fair {w = w} {n = c.rows} {marks = marks} (sym e ∙ f) in record { judged = λ y. present ok.there (shallow (marks_shallow y marks ok.there ok.shallow) (g.room y)) }
 
 pub ruleset calling = (call_refused, call_closable, call_closed, rules)
@@ -262,10 +264,10 @@ module _ {p : List Float} {r w s : List ℕ} {c : Counts} {memory : ℕ} (x : Sp
   unfolding room_of scratch_for
   enough y = record { enough = omega (arith, x.closure, x.check, y.fitting.rows_fit); sound = y }
 
-  pub refine_unsound : {marks : List ℕ} → not b ≡ true → Refines (lent p r w) c marks (Refused 9 0) (lent p r w)
-  refine_unsound e = unsound (λ y. d.0.no (not-true b e) (enough y)) (refuses refl refl)
+  pub refine_unsound : {marks : List ℕ} → not b ≡ true → {a : Refusal} → a ≡ refusal_at Unsound 0 → Refines (lent p r w) c marks (Err a) (lent p r w)
+  refine_unsound e f = unsound (λ y. d.0.no (not-true b e) (enough y)) (refuses (ap Err f) refl)
 
-  pub refine_sound : {marks : List ℕ} → not b ≡ false → {a : Refined} {t' : Lent} → Calls (lent p r w) c marks a t' → Refines (lent p r w) c marks a t'
+  pub refine_sound : {marks : List ℕ} → not b ≡ false → {a : Result Refined Refusal} {t' : Lent} → Calls (lent p r w) c marks a t' → Refines (lent p r w) c marks a t'
   refine_sound e g = let y = (d.0.yes (not-false b e)).sound in sound y (g.judged y)
 
   pub refine_callable : not b ≡ false → Callable p r w s c
@@ -273,15 +275,16 @@ module _ {p : List Float} {r w s : List ℕ} {c : Counts} {memory : ℕ} (x : Sp
 
 pub ruleset wholly = (refine_unsound, refine_sound, refine_callable, rules)
 
--- zeros over any length, so that none are written out
-pub spacious_small : (w n : ℕ) → n ≡ 60000 → w / row_width ≤ 4000 → Spacious w (length (replicate {A = ℕ} n 0))
-unfolding scratch_for
-spacious_small w n e h = rw (length-replicate {A = ℕ} n 0) (record { closure = omega arith; check = omega arith })
+-- ---- the memories of a call
 
-pub spacious_middle : (w n : ℕ) → n ≡ 100000 → w / row_width ≤ 12000 → Spacious w (length (replicate {A = ℕ} n 0))
+pub spacious_small : (w n : ℕ) → n ≡ 60000 → w / row_width ≤ 4000 → Spacious w n
 unfolding scratch_for
-spacious_middle w n e h = rw (length-replicate {A = ℕ} n 0) (record { closure = omega arith; check = omega arith })
+spacious_small w n e h = record { closure = omega arith; check = omega arith }
 
-pub spacious_large : (w n : ℕ) → n ≡ 540000 → Spacious w (length (replicate {A = ℕ} n 0))
+pub spacious_middle : (w n : ℕ) → n ≡ 100000 → w / row_width ≤ 12000 → Spacious w n
 unfolding scratch_for
-spacious_large w n e = rw (length-replicate {A = ℕ} n 0) (record { closure = omega arith; check = omega arith })
+spacious_middle w n e h = record { closure = omega arith; check = omega arith }
+
+pub spacious_large : (w n : ℕ) → n ≡ 540000 → Spacious w n
+unfolding scratch_for
+spacious_large w n e = record { closure = omega arith; check = omega arith }

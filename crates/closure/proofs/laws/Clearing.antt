@@ -1,17 +1,18 @@
 -- Refining a leaf and clearing its patch, each by the other.
+use Rattle.std.proofs.Common.{None, Some}
 use mathlib.Core.Path.{◌≡◌, refl, sym, subst, ◌∙◌}
 use mathlib.Core.List.{List}
 use Prim.Native.Nat.{ℕ, ◌+◌, ◌-◌, ◌*◌, ◌<◌}
 use native.Mathlib.Omega.{arith}
 use lib.ListN.{length}
 use borrow.Author.Rules.{rules}
+use Rattle.std.specs.Prelude.{Result, Ok, Err}
 use Rattle.split.specs.Split.{Distinct}
 use Rattle.split.specs.Row.{corners_of}
 use Rattle.tables.specs.declared.layout.Counts.{Counts}
 use Rattle.tables.specs.declared.layout.Size.{Size}
 use Rattle.tables.specs.Layout.{no_row, record_at, row_at}
 use Rattle.tables.proofs.laws.View.{length_up_to, up_to_at}
-use Rattle.intake.specs.declared.answer.Found.TheVariants.{At, Nowhere}
 use Rattle.sound.proofs.laws.Placed.{row_distinct}
 use Rattle.run.specs.Ready.{rank_in}
 use Rattle.run.specs.Ready as ready
@@ -19,36 +20,20 @@ use Rattle.run.specs.Run.{blocking, blocked, below, after}
 use Rattle.run.proofs.laws.Runs.{run_records, block_open}
 use Rattle.run.proofs.laws.Reach.{reach_ready, reach_on, block_less, rank_stays, waits}
 use Rattle.closure.specs.declared.step.Look.{Look}
-use Rattle.closure.specs.declared.step.Patch.{Patch}
-use Rattle.closure.specs.declared.step.Patch.TheVariants as patch
-use Rattle.closure.specs.declared.step.Step.{Step}
-use Rattle.closure.specs.declared.step.Step.TheVariants.{Done, Full}
+use Rattle.closure.specs.declared.step.Clear.{Clear}
+use Rattle.closure.specs.declared.step.Full.{Full}
 use Rattle.closure.specs.State.{rows_of, seen, State}
 use Rattle.closure.specs.Refining.{Tables, Sure, Jammed, Refines, Cuttable, Lookable, Looks, Clearing, Cleared, Clears}
+use Rattle.closure.proofs.laws.Answers.{of_value, value_only, of_error, error_only}
 use Rattle.closure.proofs.laws.Cutting.{refines_full}
 
 -- ---- the answers
 
-clear_counts : (a b : Counts) (j k : ℕ) → patch.Clear a j ≡ patch.Clear b k → a ≡ b
-clear_counts a b j k e = cc
+clears_clear : {r w r' w' s' : List ℕ} {c : Counts} {room : Size} {q : ℕ} {p : Clear} → Cleared (seen r w c) q room r' w' s' p.counts p.size → Clears r w c room q (Ok p) r' w' s'
+clears_clear {p = p} x = record { clear = of_value _ p x; full = value_only _ p }
 
-clear_size : (a b : Counts) (j k : ℕ) → patch.Clear a j ≡ patch.Clear b k → j ≡ k
-clear_size a b j k e = cc
-
-full_counts : (a b : Counts) → patch.Full a ≡ patch.Full b → a ≡ b
-full_counts a b e = cc
-
-never : {X : Type 0} (a b : Counts) (k : ℕ) → patch.Clear a k ≡ patch.Full b → X
-never a b k e = let z : ◌≡◌ {A = ℕ} 0 1 = cc in absurd (omega arith)
-
-clears_clear : {r w r' w' s' : List ℕ} {c : Counts} {room : Size} {d : Counts} {q k : ℕ} → Cleared (seen r w c) q room r' w' s' d k → Clears r w c room q (patch.Clear d k) r' w' s'
-clears_clear {r} {w} {r'} {w'} {s'} {c} {room} {d} {q} {k} x = record {
-  clear = λ a j e. subst (λ (b : Counts). Cleared (seen r w c) q room r' w' s' b j) (clear_counts d a k j e) (subst (Cleared (seen r w c) q room r' w' s' d) (clear_size d a k j e) x);
-  full = λ a e. never d a k e;
-}
-
-clears_full : {r w r' w' s' : List ℕ} {c : Counts} {room : Size} {d : Counts} {q : ℕ} → Jammed (seen r w c) q room r' w' s' d → Clears r w c room q (patch.Full d) r' w' s'
-clears_full {r} {w} {r'} {w'} {s'} {c} {room} {d} {q} x = record { clear = λ a j e. never a d j (sym e); full = λ a e. subst (Jammed (seen r w c) q room r' w' s') (full_counts d a e) x }
+clears_full : {r w r' w' s' : List ℕ} {c : Counts} {room : Size} {q : ℕ} {e : Full} → Jammed (seen r w c) q room r' w' s' e.counts → Clears r w c room q (Err e) r' w' s'
+clears_full {e = e} x = record { clear = error_only _ e; full = of_error _ e x }
 
 -- ---- clearing
 
@@ -83,11 +68,11 @@ module _ {r₀ w₀ s₀ r w s : List ℕ} {c : Counts} {room : Size} {d : Count
     sure_now : Sure r w s' d room q
     sure_now = record { tables = tables_scratch x.sure.tables l.state; points = x.sure.points; initials = x.sure.initials; roots = x.sure.roots; ready = x.sure.ready; ripe = x.sure.ripe }
 
-    pub clearing_clear : o.other ≡ Nowhere → Clears r₀ w₀ c room q (patch.Clear d o.size) r w s'
+    pub clearing_clear : o.other ≡ None → Clears r₀ w₀ c room q (Ok (record { counts = d; size = o.size })) r w s'
     clearing_clear e = clears_clear (record { towards = x.towards; reach = x.reach; cuttable = record { sure = sure_now; listed = l.listed; clear = sym l.other ∙ e } })
 
-    module _ {b : ℕ} (e : o.other ≡ At b) where
-      blocks : blocking (rows_of w d.rows) q ≡ At b
+    module _ {b : ℕ} (e : o.other ≡ Some b) where
+      blocks : blocking (rows_of w d.rows) q ≡ Some b
       blocks = sym l.other ∙ e
 
       pub clearing_block : Sure r w s' d room b
@@ -103,11 +88,11 @@ module _ {r₀ w₀ s₀ r w s : List ℕ} {c : Counts} {room : Size} {d : Count
       pub clearing_falls : rank_in (seen r w d) b < rank_in (seen r₀ w₀ c) q
       clearing_falls = rw (← x.rank) (block_less x.sure.ready q b x.sure.ripe blocks)
 
-      module _ {p : Step} {r' w' s'' : List ℕ} (f : Refines r w d room b p r' w' s'') {y : Counts} where
-        pub clearing_full : p ≡ Full y → Clears r₀ w₀ c room q (patch.Full y) r' w' s''
-        clearing_full z = let j = f.full y z in clears_full (record { stuck = x.towards.stuck (below blocks j.stuck); reach = reach_on x.reach j.reach; tables = j.tables })
+      module _ {p : Result Counts Full} {r' w' s'' : List ℕ} (f : Refines r w d room b p r' w' s'') where
+        pub clearing_full : {y : Full} → p ≡ Err y → Clears r₀ w₀ c room q (Err y) r' w' s''
+        clearing_full {y} z = let j = f.full y z in clears_full (record { stuck = x.towards.stuck (below blocks j.stuck); reach = reach_on x.reach j.reach; tables = j.tables })
 
-        module _ (z : p ≡ Done y) where
+        module _ {y : Counts} (z : p ≡ Ok y) where
           few : length (seen r' w' y).records < 4294967295
           few = let t = (f.done y z).tables in omega (arith, length_up_to (record_at r') y.vertices, t.vertices_in, t.few_vertices)
 
@@ -156,17 +141,17 @@ pub ruleset clearing = (clearing_start, clearing_look, clearing_clear, clearing_
 
 -- ---- refining
 
-module _ {r w r' w' s' : List ℕ} {c : Counts} {room : Size} {q : ℕ} {o : Patch} (x : Clears r w c room q o r' w' s') {d : Counts} where
-  pub refine_full : o ≡ patch.Full d → Refines r w c room q (Full d) r' w' s'
-  refine_full e = refines_full (x.full d e)
+module _ {r w r' w' s' : List ℕ} {c : Counts} {room : Size} {q : ℕ} {o : Result Clear Full} (x : Clears r w c room q o r' w' s') where
+  pub refine_full : {y : Full} → o ≡ Err y → Refines r w c room q (Err y) r' w' s'
+  refine_full {y} e = refines_full (x.full y e)
 
-  module _ {k : ℕ} (e : o ≡ patch.Clear d k) where
-    pub refine_ready : Cuttable r' w' s' d room q k
-    refine_ready = (x.clear d k e).cuttable
+  module _ {k : Clear} (e : o ≡ Ok k) where
+    pub refine_ready : Cuttable r' w' s' k.counts room q k.size
+    refine_ready = (x.clear k e).cuttable
 
-    pub refine_done : {p : Step} {r'' w'' s'' : List ℕ} → Refines r' w' d room q p r'' w'' s'' → Refines r w c room q p r'' w'' s''
+    pub refine_done : {p : Result Counts Full} {r'' w'' s'' : List ℕ} → Refines r' w' k.counts room q p r'' w'' s'' → Refines r w c room q p r'' w'' s''
     refine_done f =
-        let y = x.clear d k e in
+        let y = x.clear k e in
         record {
           done = λ a z. let j = f.done a z in record { run = y.towards.runs _ j.run; reach = reach_on y.reach j.reach; tables = j.tables };
           full = λ a z. let j = f.full a z in record { stuck = y.towards.stuck j.stuck; reach = reach_on y.reach j.reach; tables = j.tables };

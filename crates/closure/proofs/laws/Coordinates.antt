@@ -1,15 +1,18 @@
 -- Nothing in a call on sound tables depends on coordinates (01, "Closure"): tables that differ in their points alone get the same answer, records and rows.
+use Rattle.std.proofs.Common.{None, Result, Ok, Err}
 use mathlib.Core.Path.{◌≡◌, refl, sym, ap, subst, ◌∙◌}
 use mathlib.Core.Bool.{Bool, true, false}
 use mathlib.Core.List.{List}
 use Prim.Native.Nat.{ℕ, ◌-◌, ◌/◌}
 use native.Mathlib.Omega.{arith}
 use lib.ListN.{length}
+use Rattle.tables.specs.declared.refusal.Cause.{Cause}
+use Rattle.tables.specs.declared.refusal.Refusal.{Refusal}
+use Rattle.tables.specs.Refusal.{refused}
 use Rattle.tables.specs.declared.layout.Counts.{Counts}
 use Rattle.tables.specs.declared.layout.Size.{Size}
 use Rattle.tables.specs.Layout.{record_cells, row_cells, record_at, row_at, room_of, resized}
 use Rattle.tables.specs.Mesh.{Lent, mesh_of, laid, up_to, flat, padded}
-use Rattle.intake.specs.declared.answer.Found.TheVariants.{Nowhere}
 use Rattle.intake.specs.Search.{first}
 use Rattle.intake.proofs.laws.First.{found_never, found_one}
 use Rattle.sound.specs.Sound.{Sound}
@@ -19,8 +22,7 @@ use Rattle.run.specs.Demand.{Deep, Outgrows}
 use Rattle.run.proofs.laws.Room.{enough_room}
 use Rattle.run.proofs.laws.Unique.{run_all_unique}
 use Rattle.closure.specs.declared.answer.Refined.{Refined}
-use Rattle.closure.specs.declared.answer.Refined.TheVariants.{Done, Refused}
-use Rattle.closure.specs.Refine.{absent, room_in, Refuses, Accepts, OnRoom, outgrown, fits, OnDepth, deep, shallow, OnMarks, missing, present, Refines, unsound, sound}
+use Rattle.closure.specs.Refine.{refined_to, absent, room_in, Refuses, Accepts, OnRoom, outgrown, fits, OnDepth, deep, shallow, OnMarks, missing, present, Refines, unsound, sound}
 use Rattle.closure.proofs.laws.Entry.{roomy}
 use Rattle.frame.proofs.laws.Marks.{deeps}
 use Rattle.closure.proofs.laws.Judged.{marks_deep, marks_shallow}
@@ -39,12 +41,12 @@ pub alike_back : {t u : Lent} → Alike t u → Alike u t
 alike_back a = record { points = sym a.points; records = sym a.records; rows = sym a.rows }
 
 -- the records and rows of tables, and the answer
-abbrev Same : Refined → Lent → Refined → Lent → Type 0
+abbrev Same : Result Refined Refusal → Lent → Result Refined Refusal → Lent → Type 0
 Same r t r₂ u = (r ≡ r₂) × (t.records ≡ u.records) × (t.rows ≡ u.rows)
 
-points_kept : {t : Lent} {c : Counts} {marks : List ℕ} (r : Refined) {t' : Lent} → Refines t c marks r t' → length t'.points ≡ length t.points
-points_kept (Done d n) x = accepted_points (was_sound x) x
-points_kept (Refused k p) x = ap (λ (l : Lent). length l.points) (refused_same x)
+points_kept : {t : Lent} {c : Counts} {marks : List ℕ} (r : Result Refined Refusal) {t' : Lent} → Refines t c marks r t' → length t'.points ≡ length t.points
+points_kept (Ok y) x = accepted_points (was_sound x) x
+points_kept (Err e) x = ap (λ (l : Lent). length l.points) (refused_same x)
 
 module _ {t u : Lent} (a : Alike t u) where
   same_room : room_in t ≡ room_in u
@@ -54,7 +56,7 @@ module _ {t u : Lent} (a : Alike t u) where
   unfolding mesh_of
   same_skeleton c = λ j. record { records = up_to (record_at (a.records j)) c.vertices; rows = up_to (row_at (a.rows j)) c.rows }
 
-  module _ {c : Counts} (s : Sound t c) (s' : Sound u c) (marks : List ℕ) (e : first (absent c.rows marks) (length marks) ≡ Nowhere) where
+  module _ {c : Counts} (s : Sound t c) (s' : Sound u c) (marks : List ℕ) (e : first (absent c.rows marks) (length marks) ≡ None) where
     same_depth : Deep (mesh_of t c) s.roots marks → Deep (mesh_of u c) s'.roots marks
     same_depth d = go (deeps t.rows c.rows marks) refl
       where
@@ -73,10 +75,10 @@ module _ {t u : Lent} (a : Alike t u) where
 
 -- ---- the outcomes
 
-module _ {t u : Lent} (a : Alike t u) {r r₂ : Refined} {t' u' : Lent} where
-  same_refusal : {n p q : ℕ} → p ≡ q → Refuses t n p r t' → Refuses u n q r₂ u' → Same r t' r₂ u'
+module _ {t u : Lent} (a : Alike t u) {r r₂ : Result Refined Refusal} {t' u' : Lent} where
+  same_refusal : {n : Cause} {p q : ℕ} → p ≡ q → Refuses t n p r t' → Refuses u n q r₂ u' → Same r t' r₂ u'
   same_refusal {n} e x y = (
-    x.answers ∙ ap (λ (k : ℕ). Refused n k) e ∙ sym y.answers,
+    x.answers ∙ ap (λ (k : ℕ). refused n k) e ∙ sym y.answers,
     ap (λ (l : Lent). l.records) x.leaves ∙ a.records ∙ sym (ap (λ (l : Lent). l.records) y.leaves),
     ap (λ (l : Lent). l.rows) x.leaves ∙ a.rows ∙ sym (ap (λ (l : Lent). l.rows) y.leaves),
   )
@@ -85,20 +87,20 @@ module _ {t u : Lent} (a : Alike t u) {r r₂ : Refined} {t' u' : Lent} where
   unfolding laid
   same_acceptance {c} {marks} x y =
       let e : x.after ≡ y.after = run_all_unique x.run (subst (λ (X : Skeleton). RunAll X marks y.after) (sym (same_skeleton a c)) y.run) in (
-        x.answers ∙ ap (λ (A : Skeleton). Done (resized c (length A.records) (length A.rows)) ((length A.rows - c.rows) / 2)) e ∙ sym y.answers,
+        x.answers ∙ ap (λ (A : Skeleton). refined_to (resized c (length A.records) (length A.rows)) ((length A.rows - c.rows) / 2)) e ∙ sym y.answers,
         ap (λ (l : Lent). l.records) x.leaves ∙ (λ j. padded (length (a.records j)) 0 (flat record_cells (e j).records)) ∙ sym (ap (λ (l : Lent). l.records) y.leaves),
         ap (λ (l : Lent). l.rows) x.leaves ∙ (λ j. padded (length (a.rows j)) 0 (flat row_cells (e j).rows)) ∙ sym (ap (λ (l : Lent). l.rows) y.leaves),
       )
 
   module _ {c : Counts} (s : Sound t c) (s' : Sound u c) {marks : List ℕ} where
-    on_room : first (absent c.rows marks) (length marks) ≡ Nowhere → (Deep (mesh_of t c) s.roots marks → ⊥) → (Deep (mesh_of u c) s'.roots marks → ⊥)
+    on_room : first (absent c.rows marks) (length marks) ≡ None → (Deep (mesh_of t c) s.roots marks → ⊥) → (Deep (mesh_of u c) s'.roots marks → ⊥)
         → OnRoom RunAll t c s.initials s.roots marks r t' → OnRoom RunAll u c s'.initials s'.roots marks r₂ u' → Same r t' r₂ u'
     on_room e n n' (outgrown o x) (outgrown o' y) = same_refusal refl x y
     on_room e n n' (outgrown o x) (fits f y) = absurd (same_fit a s s' marks e n n' y.run f o)
     on_room e n n' (fits f x) (outgrown o y) = absurd (same_fit (alike_back a) s' s marks e n' n x.run f o)
     on_room e n n' (fits f x) (fits f' y) = same_acceptance x y
 
-    on_depth : first (absent c.rows marks) (length marks) ≡ Nowhere → OnDepth RunAll t c s.initials s.roots marks r t' → OnDepth RunAll u c s'.initials s'.roots marks r₂ u' → Same r t' r₂ u'
+    on_depth : first (absent c.rows marks) (length marks) ≡ None → OnDepth RunAll t c s.initials s.roots marks r t' → OnDepth RunAll u c s'.initials s'.roots marks r₂ u' → Same r t' r₂ u'
     on_depth e (deep d x) (deep d' y) = same_refusal refl x y
     on_depth e (deep d x) (shallow n y) = absurd (n (same_depth a s s' marks e d))
     on_depth e (shallow n x) (deep d y) = absurd (n (same_depth (alike_back a) s' s marks e d))
@@ -120,5 +122,5 @@ module _ {t u : Lent} (a : Alike t u) {r r₂ : Refined} {t' u' : Lent} where
     coordinate_free x y = let (same, records, rows) = judged_same x y in (same, record { points = points_kept r x ∙ a.points ∙ sym (points_kept r₂ y); records = records; rows = rows })
 
 -- two accepted calls were on sound tables
-pub accepted_alike : {t u : Lent} {c : Counts} {marks : List ℕ} {d d₂ : Counts} {n n₂ : ℕ} {t' u' : Lent} → Alike t u → Refines t c marks (Done d n) t' → Refines u c marks (Done d₂ n₂) u' → (d ≡ d₂) × (n ≡ n₂) × Alike t' u'
+pub accepted_alike : {t u : Lent} {c : Counts} {marks : List ℕ} {d d₂ : Counts} {n n₂ : ℕ} {t' u' : Lent} → Alike t u → Refines t c marks (refined_to d n) t' → Refines u c marks (refined_to d₂ n₂) u' → (d ≡ d₂) × (n ≡ n₂) × Alike t' u'
 accepted_alike a x y = let (e, w) = coordinate_free a (was_sound x) (was_sound y) x y in (done_counts e, done_splits e, w)

@@ -5,10 +5,11 @@ use mathlib.Core.List.{List, [], ◌∷◌, ◌++◌, Memᴰ}
 use mathlib.Core.Logic.{inl, inr}
 use Prim.Native.Nat.{ℕ, zero, suc, ◌+◌, ◌-◌, ◌*◌, ◌/◌, ◌≤◌, ◌<◌}
 use native.Mathlib.Omega.{arith}
-use lib.Dec.{leb}
+use lib.Dec.{leb, ltb}
 use lib.ListN.{length, get_or, length-append}
 use borrow.Author.Tests.{lt-ltb, le-ltb, leb-true, leb-false, ltb-true, not-true, not-false}
 use borrow.Author.Rules.{rules}
+use Rattle.std.specs.Prelude.{Ok, Err}
 use Rattle.split.specs.declared.row.Row.{Row}
 use Rattle.split.specs.declared.row.Ends.{Ends}
 use Rattle.split.specs.Row.{edge_of}
@@ -26,25 +27,25 @@ use Rattle.run.proofs.laws.Listed.{cut_length}
 use Rattle.run.proofs.laws.Holders.{holders_only}
 use Rattle.run.specs.Ready as ready
 use Rattle.run.proofs.laws.Reach.{reach_run}
-use Rattle.closure.specs.declared.step.Step.TheVariants.{Done, Full}
+use Rattle.closure.specs.declared.step.Full.{Full}
 use Rattle.closure.specs.State.{rows_of, records_of, seen, links_at, patch_in, Patchable, Parted}
 use Rattle.closure.specs.Refining.{Tables, Ran, Jammed, Refines, fits_in, Patched, Cuttable}
 use Rattle.sound.proofs.laws.Searches.{and_both}
-use Rattle.closure.proofs.laws.Answers.{done_counts, full_counts, done_full}
+use Rattle.closure.proofs.laws.Answers.{of_value, value_only, of_error, error_only}
 use Rattle.closure.proofs.laws.Index.{state_holds}
 use Rattle.closure.proofs.laws.Rows.{record_other, records_next}
 
 -- ---- the answers
 
-pub refines_done : {r w r' w' s' : List ℕ} {c : Counts} {room : Size} {d : Counts} {q : ℕ} → Ran (seen r w c) q room r' w' s' d → Refines r w c room q (Done d) r' w' s'
-refines_done {r} {w} {r'} {w'} {s'} {c} {room} {d} {q} x = record { done = λ a e. subst (Ran (seen r w c) q room r' w' s') (done_counts d a e) x; full = λ a e. done_full d a e }
+pub refines_done : {r w r' w' s' : List ℕ} {c : Counts} {room : Size} {d : Counts} {q : ℕ} → Ran (seen r w c) q room r' w' s' d → Refines r w c room q (Ok d) r' w' s'
+refines_done {d = d} x = record { done = of_value _ d x; full = value_only _ d }
 
-pub refines_full : {r w r' w' s' : List ℕ} {c : Counts} {room : Size} {d : Counts} {q : ℕ} → Jammed (seen r w c) q room r' w' s' d → Refines r w c room q (Full d) r' w' s'
-refines_full {r} {w} {r'} {w'} {s'} {c} {room} {d} {q} x = record { done = λ a e. done_full a d (sym e); full = λ a e. subst (Jammed (seen r w c) q room r' w' s') (full_counts d a e) x }
+pub refines_full : {r w r' w' s' : List ℕ} {c : Counts} {room : Size} {e : Full} {q : ℕ} → Jammed (seen r w c) q room r' w' s' e.counts → Refines r w c room q (Err e) r' w' s'
+refines_full {e = e} x = record { done = error_only _ e; full = of_error _ e x }
 
 -- ---- the test of room
 
-pub fits_vertices : (room : Size) (d : Counts) (k : ℕ) → room.vertices ≤ d.vertices → false ≡ fits_in room d k
+pub fits_vertices : (room : Size) (d : Counts) (k : ℕ) → room.vertices ≤ d.vertices → ltb d.vertices room.vertices ≡ fits_in room d k
 unfolding fits_in
 fits_vertices room d k h = rw (le-ltb d.vertices room.vertices h)
 
@@ -119,7 +120,7 @@ module _ {r w s : List ℕ} {d : Counts} {room : Size} {q k : ℕ} (x : Cuttable
         run.rows (rw patch_is (omega (arith, more, cut_all_length (length (records_of r d.vertices)) (patch_in s k) (rows_of w d.rows), length_up_to (row_at w) d.rows, patch_length s k)))
   ]
 
-  pub cut_full : {b : Bool} → b ≡ fits_in room d k → not b ≡ true → Refines r w d room q (Full d) r w s
+  pub cut_full : {b : Bool} → b ≡ fits_in room d k → not b ≡ true → Refines r w d room q (Err (record { counts = d })) r w s
   cut_full {b} f z = refines_full (record { stuck = full x.clear (over (sym f ∙ not-true b z)); reach = ready.here refl; tables = T })
 
   -- where there is room
@@ -162,7 +163,7 @@ module _ {r w s : List ℕ} {d : Counts} {room : Size} {q k : ℕ} (x : Cuttable
       ran : Run S q (seen r' w' d')
       ran = clear x.clear split_is
 
-      cut_ran : Refines r w d room q (Done d') r' w' s'
+      cut_ran : Refines r w d room q (Ok d') r' w' s'
       cut_ran =
           let (v, n) = room_is in
           let same : length r' ≡ length r = rw er (length_put_record r d.vertices (record_for e)) in
@@ -181,7 +182,7 @@ module _ {r w s : List ℕ} {d : Counts} {room : Size} {q k : ℕ} (x : Cuttable
             };
           })
 
-      pub cut_done : {a : Counts} → a ≡ d' → Refines r w d room q (Done a) r' w' s'
-      cut_done e = subst (λ (a : Counts). Refines r w d room q (Done a) r' w' s') (sym e) cut_ran
+      pub cut_done : {a : Counts} → a ≡ d' → Refines r w d room q (Ok a) r' w' s'
+      cut_done e = subst (λ (a : Counts). Refines r w d room q (Ok a) r' w' s') (sym e) cut_ran
 
 pub ruleset cutting = (cut_few, cut_full, cut_ready, cut_done, rules)

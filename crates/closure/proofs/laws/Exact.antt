@@ -21,8 +21,7 @@ use Rattle.tables.specs.Layout.{point_at, record_at}
 use Rattle.tables.proofs.laws.View.{mesh_record, mesh_point}
 use Rattle.tables.specs.Mesh.{Lent, Mesh, mesh_of}
 use Rattle.sound.specs.Sound.{vertices, point_of, record_of, Grown, Sound}
-use Rattle.closure.specs.declared.answer.Refined.TheVariants.{Done}
-use Rattle.closure.specs.Refine.{Refines}
+use Rattle.closure.specs.Refine.{refined_to, Refines}
 use Rattle.closure.specs.Exact.{Axis, x_axis, y_axis, z_axis, along, Steps, initial, midpoint, WholeStart}
 use Rattle.closure.proofs.laws.Taken.{sound_vertices}
 use Rattle.closure.proofs.laws.Accepted.{accepted_grows, accepted_counted}
@@ -123,7 +122,7 @@ module _ {t : Lent} {c : Counts} (s : Sound t c) where
         (subst (λ (n : Point). Reached d (along w n) z) (sym (mesh_point t c v h)) r)
 
 -- an accepted call keeps the start and the steps
-module _ {t : Lent} {c : Counts} (s : Sound t c) {marks : List ℕ} {d : Counts} {n : ℕ} {t' : Lent} (x : Refines t c marks (Done d n) t') where
+module _ {t : Lent} {c : Counts} (s : Sound t c) {marks : List ℕ} {d : Counts} {n : ℕ} {t' : Lent} (x : Refines t c marks (refined_to d n) t') where
   pub whole_kept : {w : Axis} → WholeStart (mesh_of t c) s.initials w → WholeStart (mesh_of t' d) s.initials w
   whole_kept {w} o = record {
     whole = λ v h.

@@ -19,8 +19,7 @@ use Rattle.sound.proofs.laws.Splits.{splits_closed}
 use Rattle.run.specs.Demand.{marked_elements}
 use Rattle.run.proofs.laws.Calls.{After, after_start, after_call}
 use Rattle.run.proofs.laws.LeafSum.{split_told}
-use Rattle.closure.specs.declared.answer.Refined.TheVariants.{Done}
-use Rattle.closure.specs.Refine.{Refines}
+use Rattle.closure.specs.Refine.{refined_to, Refines}
 use Rattle.closure.specs.History.{Since, opened, started, accepted, refused, History}
 use Rattle.closure.proofs.laws.Promise.{refused_same}
 use Rattle.closure.proofs.laws.Taken.{taken, sound_mesh, sound_ready, sound_rows}
@@ -58,7 +57,7 @@ started_held {F} {o} {B} {t} {c} s i r f b = record {
 }
 
 accepted_held : {F : Forest} {o : Counts} {B : Element → Type 0} {t : Lent} {c : Counts} {calls : List (List Element)} {marks : List ℕ} {d : Counts} {n : ℕ} {t' : Lent}
-    → Held F o B t c calls → Refines t c marks (Done d n) t' → Held F o B t' d (marked_elements (mesh_of t c) o.rows marks ∷ calls)
+    → Held F o B t c calls → Refines t c marks (refined_to d n) t' → Held F o B t' d (marked_elements (mesh_of t c) o.rows marks ∷ calls)
 accepted_held {F} {o} {B} {t} {c} {calls} {marks} {d} {n} {t'} h x =
     let on = accepted_sound h.sound x in
     record {

@@ -1,4 +1,7 @@
 -- Marks that have passed their tests, and those that have not.
+use Rattle.std.proofs.Common.{None, Ok, Err}
+use Rattle.tables.specs.declared.refusal.Refusal.{Refusal}
+use Rattle.intake.specs.Verdict.{Verdict}
 use mathlib.Core.Path.{◌≡◌, sym, ◌∙◌}
 use mathlib.Core.Bool.{true, false, true≢false}
 use mathlib.Core.List.{List, [], ◌∷◌, Memᴰ}
@@ -12,8 +15,6 @@ use Rattle.tables.specs.declared.layout.Counts.{Counts}
 use Rattle.tables.specs.Layout.{no_row, row_at}
 use Rattle.tables.specs.Mesh.{Mesh, mesh_of}
 use Rattle.tables.proofs.laws.View.{up_to_at, mesh_row}
-use Rattle.intake.specs.declared.answer.Found.TheVariants.{Nowhere}
-use Rattle.intake.specs.declared.answer.Verdict.TheVariants.{Passed, Refused}
 use Rattle.intake.specs.Search.{first}
 use Rattle.intake.proofs.laws.Search.{first_none, any_has, any_some}
 use Rattle.sound.specs.Sound.{rows, Sound}
@@ -28,8 +29,8 @@ use Rattle.closure.specs.Marking.{Fine}
 use Rattle.closure.specs.Refine.{absent}
 use Rattle.closure.proofs.laws.Cutting.{member_at}
 
-pub refused_never : {X : Type 0} {n p : ℕ} → Refused n p ≡ Passed → X
-refused_never e = let z : ◌≡◌ {A = ℕ} 0 1 = cc in absurd (omega arith)
+pub refused_never : {X : Type 0} {e : Refusal} → ◌≡◌ {A = Verdict} (Err e) (Ok tt) → X
+refused_never q = absurd (cc)
 
 -- ---- marks by their positions
 
@@ -45,7 +46,7 @@ place_of_lem (x ∷ l) q (Memᴰ.tail k) = let p = place_of_lem l q k in record 
 
 -- ---- marks on sound tables, once 10 is past
 
-module _ {p : List Float} {r w : List ℕ} {c : Counts} (s : Sound (lent p r w) c) (marks : List ℕ) (e : first (absent c.rows marks) (length marks) ≡ Nowhere) where
+module _ {p : List Float} {r w : List ℕ} {c : Counts} (s : Sound (lent p r w) c) (marks : List ℕ) (e : first (absent c.rows marks) (length marks) ≡ None) where
   abbrev m : Mesh
   m = mesh_of (lent p r w) c
 

@@ -13,8 +13,7 @@ use Rattle.tables.proofs.laws.View.{mesh_row, mesh_record, mesh_point, mesh_poin
 use Rattle.sound.specs.Sound.{point_of, childless, Sound}
 use Rattle.run.specs.Skeleton.{extended}
 use Rattle.run.proofs.laws.Points.{halfway}
-use Rattle.closure.specs.declared.answer.Refined.TheVariants.{Done}
-use Rattle.closure.specs.Refine.{Refines}
+use Rattle.closure.specs.Refine.{refined_to, Refines}
 use Rattle.closure.proofs.laws.Taken.{sound_rows, sound_vertices, taken}
 use Rattle.closure.proofs.laws.Accepted.{accepted_mesh, accepted_grows, accepted_counted}
 
@@ -32,7 +31,7 @@ pub record Kept (t : Lent) (c : Counts) (t' : Lent) : Type 0 where
   pub vertex : (v : ℕ) → v < c.vertices → record_at t'.records v ≡ record_at t.records v
   pub point : (v : ℕ) → v < c.vertices → point_at t'.points v ≡ point_at t.points v
 
-module _ {t : Lent} {c : Counts} (s : Sound t c) {marks : List ℕ} {d : Counts} {n : ℕ} {t' : Lent} (x : Refines t c marks (Done d n) t') where
+module _ {t : Lent} {c : Counts} (s : Sound t c) {marks : List ℕ} {d : Counts} {n : ℕ} {t' : Lent} (x : Refines t c marks (refined_to d n) t') where
   row_in_both : (k : ℕ) → k < c.rows → k < d.rows
   row_in_both k h = omega (arith, (accepted_counted s x).rows)
 

@@ -1,4 +1,5 @@
 -- Looking at a patch: it is listed, and the first leaf that blocks is found.
+use Rattle.std.proofs.Common.{Option}
 use mathlib.Core.Path.{◌≡◌, ◌∙◌}
 use mathlib.Core.List.{List}
 use Prim.Native.Nat.{ℕ, ◌<◌}
@@ -9,7 +10,6 @@ use Rattle.split.specs.declared.row.Ends.{Ends}
 use Rattle.split.specs.Row.{edge_of}
 use Rattle.tables.specs.Layout.{no_row, row_at}
 use Rattle.tables.proofs.laws.View.{up_to_at}
-use Rattle.intake.specs.declared.answer.Found.{Found}
 use Rattle.run.specs.Run.{other_in}
 use Rattle.run.proofs.laws.Edge.{own_both}
 use Rattle.closure.specs.State.{rows_of, links_at, patch_in, EndOf, small, large, Gatherable, Gathers, Listed}
@@ -33,7 +33,7 @@ module _ {w s : List ℕ} {n q : ℕ} (x : Lookable w s n q) {e : Ends} (is : e 
     pub look_listed : Listed s' n k
     look_listed = record { size = omega (arith, g.size, state_holds g.state); few = omega (arith, g.size, g.state.few); listed = patched_listed patched }
 
-    pub look_done : {f : Found} → f ≡ other_in (rows_of w n) e (patch_in s' k) → Looks w n q (record { other = f; size = k }) s'
+    pub look_done : {f : Option ℕ} → f ≡ other_in (rows_of w n) e (patch_in s' k) → Looks w n q (record { other = f; size = k }) s'
     look_done h = record {
       state = g.state;
       listed = patched;

@@ -1,5 +1,5 @@
 -- The marks of a call, one after the other.
-use mathlib.Core.Path.{◌≡◌, refl, sym, ap, subst, ◌∙◌}
+use mathlib.Core.Path.{◌≡◌, refl, sym, ap, ◌∙◌}
 use mathlib.Core.List.{List, [], ◌∷◌}
 use Prim.Native.Nat.{ℕ, ◌+◌, ◌≤◌, ◌<◌}
 use native.Mathlib.Omega.{arith}
@@ -7,6 +7,7 @@ use native.Mathlib.Numerals.{add-one}
 use lib.ListN.{length, get_or, drop}
 use lib.Seq.{drop-cons, drop-length}
 use borrow.Author.Rules.{rules}
+use Rattle.std.specs.Prelude.{Result, Ok, Err}
 use Rattle.split.specs.declared.row.Row.{Row}
 use Rattle.tables.specs.declared.layout.Counts.{Counts}
 use Rattle.tables.specs.declared.layout.Size.{Size}
@@ -19,12 +20,11 @@ use Rattle.run.specs.Run.{RunAll, StuckAll, Within}
 use Rattle.run.specs.Run as run
 use Rattle.run.proofs.laws.Needs.{Markable, markable_later}
 use Rattle.run.proofs.laws.Reach.{reach_ready, reach_grows, reach_on}
-use Rattle.closure.specs.declared.step.Step.{Step}
-use Rattle.closure.specs.declared.step.Step.TheVariants.{Done, Full}
+use Rattle.closure.specs.declared.step.Full.{Full}
 use Rattle.closure.specs.State.{rows_of, seen}
 use Rattle.closure.specs.Refining.{Tables, Sure, Refines}
-use Rattle.closure.proofs.laws.Answers.{done_counts, full_counts, done_full}
-use Rattle.closure.specs.Marking.{Steady, Fine, Due, AllDue, Passed, Passes, Ended, Failed, Marks, Marking}
+use Rattle.closure.proofs.laws.Answers.{of_value, value_only, of_error, error_only}
+use Rattle.closure.specs.Marking.{Steady, Fine, Due, AllDue, Passes, Marks, Marking}
 
 -- ---- one mark
 
@@ -36,10 +36,10 @@ module _ {r w s : List ℕ} {c : Counts} {room : Size} {q : ℕ} (x : Due r w s 
   row_is : row_in (rows_of w c.rows) q ≡ held
   row_is = up_to_at (row_at w) c.rows q no_row x.fine.there ∙ sym is
 
-  pub mark_passed : (held.child ≡ 0 → ⊥) → Passes r w c room q (Done c) r w s
+  pub mark_passed : (held.child ≡ 0 → ⊥) → Passes r w c room q (Ok c) r w s
   mark_passed d = record {
-    done = λ a e. subst (Passed (seen r w c) q room r w s) (done_counts c a e) (record { runs = λ rs U p. run.RunAll.passed split p; stuck = λ rs p. run.StuckAll.passed split p; reach = ready.here refl; tables = x.steady.tables });
-    full = λ a e. done_full c a e;
+    done = of_value _ c (record { runs = λ rs U p. run.RunAll.passed split p; stuck = λ rs p. run.StuckAll.passed split p; reach = ready.here refl; tables = x.steady.tables });
+    full = value_only _ c;
   }
     where
       split : (row_in (rows_of w c.rows) q).child ≡ 0 → ⊥
@@ -63,7 +63,7 @@ module _ {r w s : List ℕ} {c : Counts} {room : Size} {q : ℕ} (x : Due r w s 
       };
     }
 
-    pub mark_refined : {o : Step} {r' w' s' : List ℕ} → Refines r w c room q o r' w' s' → Passes r w c room q o r' w' s'
+    pub mark_refined : {o : Result Counts Full} {r' w' s' : List ℕ} → Refines r w c room q o r' w' s' → Passes r w c room q o r' w' s'
     mark_refined f = record {
       done = λ a e. let j = f.done a e in record { runs = λ rs U p. run.RunAll.refined leaf j.run p; stuck = λ rs p. run.StuckAll.refined leaf j.run (within_room j.tables) p; reach = j.reach; tables = j.tables };
       full = λ a e. let j = f.full a e in record { stuck = λ rs. run.StuckAll.here leaf j.stuck; reach = j.reach; tables = j.tables };
@@ -92,17 +92,17 @@ module _ {r₀ w₀ s₀ r w s marks : List ℕ} {c : Counts} {room : Size} {d :
     next : drop j marks ≡ q ∷ drop (j + 1) marks
     next = drop-cons marks j 0 h ∙ rw (← is, ← add-one j)
 
-    module _ {o : Step} {r' w' s' : List ℕ} (f : Passes r w d room q o r' w' s') {y : Counts} where
-      pub marking_full : o ≡ Full y → length r' ≡ length r → length w' ≡ length w → Marks r₀ w₀ c room marks (Full y) r' w' s'
-      marking_full e er ew = let k = f.full y e in record {
+    module _ {o : Result Counts Full} {r' w' s' : List ℕ} (f : Passes r w d room q o r' w' s') where
+      pub marking_full : {y : Full} → o ≡ Err y → length r' ≡ length r → length w' ≡ length w → Marks r₀ w₀ c room marks (Err y) r' w' s'
+      marking_full {y} e er ew = let k = f.full y e in record {
         records_size = er ∙ x.records_size;
         rows_size = ew ∙ x.rows_size;
-        done = λ a z. done_full a y (sym z);
-        full = λ a z. subst (Failed (seen r₀ w₀ c) marks room r' w' s') (full_counts y a z) (record { stuck = x.stuck (rw next (k.stuck (drop (j + 1) marks))); reach = reach_on x.reach k.reach; tables = k.tables });
+        done = error_only _ y;
+        full = of_error _ y (record { stuck = x.stuck (rw next (k.stuck (drop (j + 1) marks))); reach = reach_on x.reach k.reach; tables = k.tables });
       }
 
-      pub marking_next : o ≡ Done y → length r' ≡ length r → length w' ≡ length w → length s' ≡ length s → Marking r₀ w₀ s₀ c room marks r' w' s' y (j + 1)
-      marking_next e er ew es =
+      pub marking_next : {y : Counts} → o ≡ Ok y → length r' ≡ length r → length w' ≡ length w → length s' ≡ length s → Marking r₀ w₀ s₀ c room marks r' w' s' y (j + 1)
+      marking_next {y} e er ew es =
           let k = f.done y e in
           let z = x.due.steady in
           record {
@@ -119,12 +119,12 @@ module _ {r₀ w₀ s₀ r w s marks : List ℕ} {c : Counts} {room : Size} {d :
             scratch_size = es ∙ x.scratch_size;
           }
 
-  pub marking_done : length marks ≤ j → Marks r₀ w₀ c room marks (Done d) r w s
+  pub marking_done : length marks ≤ j → Marks r₀ w₀ c room marks (Ok d) r w s
   marking_done h = record {
     records_size = x.records_size;
     rows_size = x.rows_size;
-    done = λ a e. subst (Ended (seen r₀ w₀ c) marks room r w s) (done_counts d a e) (record { run = x.runs (seen r w d) (rw last (run.RunAll.done refl)); reach = x.reach; tables = x.due.steady.tables });
-    full = λ a e. done_full d a e;
+    done = of_value _ d (record { run = x.runs (seen r w d) (rw last (run.RunAll.done refl)); reach = x.reach; tables = x.due.steady.tables });
+    full = value_only _ d;
   }
     where
       last : drop j marks ≡ []

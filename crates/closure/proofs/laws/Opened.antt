@@ -1,4 +1,5 @@
 -- Opened tables are sound, all their vertices are initial, all their rows are roots, and none is split: a history starts so (demand 3).
+use Rattle.std.proofs.Common.{Ok}
 use mathlib.Core.Path.{◌≡◌, sym, ap, subst, ◌∙◌}
 use mathlib.Core.List.{List}
 use Prim.Native.Nat.{ℕ, ◌/◌, ◌<◌}
@@ -8,8 +9,6 @@ use Rattle.split.specs.declared.row.Row.{Row}
 use Rattle.tables.specs.declared.layout.Counts.{Counts}
 use Rattle.tables.specs.Layout.{row_at}
 use Rattle.tables.specs.Mesh.{Lent, Mesh, mesh_of, laid}
-use Rattle.intake.specs.declared.answer.Verdict.TheVariants.{Passed}
-use Rattle.opening.specs.declared.answer.Opened.TheVariants as answer
 use Rattle.intake.specs.Cells.{quads}
 use Rattle.opening.specs.Opening.{judged, opened_mesh, Opens}
 use Rattle.sound.specs.Sound.{Parted, Sound}
@@ -25,7 +24,7 @@ pub record Unsplit (t : Lent) (c : Counts) : Type 0 where
   pub roots_are : sound.roots ≡ c.rows
   pub leaves : (k : ℕ) → k < c.rows → (row_at t.rows k).child ≡ 0
 
-module _ (F : List Float) (E : List ℕ) (lp lv lr : ℕ) (passed : judged F E lp lv lr ≡ Passed) where
+module _ (F : List Float) (E : List ℕ) (lp lv lr : ℕ) (passed : judged F E lp lv lr ≡ Ok tt) where
   sure : Sound (laid (opened_mesh F (quads E)) lp lv lr) (size F E)
   sure = opened_sound F E lp lv lr passed
 
@@ -40,5 +39,5 @@ module _ (F : List Float) (E : List ℕ) (lp lv lr : ℕ) (passed : judged F E l
     leaves = λ k h. ap (λ (r : Row). r.child) (table_row F E lp lv lr passed k h ∙ sym (opened_row F (quads E) k h)) ∙ opened_leaf F (quads E) k h;
   }
 
-pub opens_unsplit : {F : List Float} {E : List ℕ} {t : Lent} {c : Counts} {t' : Lent} → Opens F E t (answer.Done c) t' → Unsplit t' c
+pub opens_unsplit : {F : List Float} {E : List ℕ} {t : Lent} {c : Counts} {t' : Lent} → Opens F E t (Ok c) t' → Unsplit t' c
 opens_unsplit {F} {E} o = opens_laid Unsplit o (laid_unsplit F E)

@@ -1,44 +1,30 @@
 -- What the tests on one row answer.
 use mathlib.Core.Path.{◌≡◌, refl, sym, ◌∙◌}
 use mathlib.Core.Bool.{Bool, true, false, not, ◌&&◌, ◌||◌, cond}
-use Prim.Native.Nat.{ℕ, ◌+◌}
+use Prim.Native.Nat.{ℕ}
 use native.Mathlib.Decide.{ℕ_discrete}
-use native.Mathlib.Omega.{arith}
-use lib.Dec.{eqb, ltb}
-use borrow.Author.Tests.{lt-ltb, eq-eqb, ne_eqb, not-true, not-false}
+use lib.Dec.{eqb}
+use borrow.Author.Tests.{eq-eqb, ne_eqb, not-true, not-false}
 use Rattle.split.specs.declared.row.Row.{Row}
 use Rattle.split.specs.declared.row.Ends.{Ends}
 use Rattle.run.specs.Run.{has, holding}
-use Rattle.closure.specs.State.{EndOf, small, large, once, leaf_with, other_end}
+use Rattle.closure.specs.State.{EndOf, small, large, leaf_with, other_end}
 
 -- ---- a vertex of the row
 
-pub once_same : {u v : ℕ} → u ≡ v → 1 ≡ once u v
-unfolding once
-once_same {u} {v} e = rw (eq-eqb u v e)
+or_right : (p q s t : Bool) → ((p || q) || s) || t ≡ p || q || s || t
+or_right true q s t = refl
+or_right false true s t = refl
+or_right false false s t = refl
 
-pub once_other : {u v : ℕ} → (u ≡ v → ⊥) → 0 ≡ once u v
-unfolding once
-once_other {u} {v} d = rw (ne_eqb u v d)
-
-pub ruleset once_tests = (once_same, once_other)
-
--- some vertex of the row is v exactly if the sum of the four is not 0
-pub has_sum : (r : Row) (v : ℕ) {a b c d : ℕ} → a ≡ once r.v0 v → b ≡ once r.v1 v → c ≡ once r.v2 v → d ≡ once r.v3 v → ltb 0 (a + b + c + d) ≡ has r v
-unfolding has once
-has_sum r v ea eb ec ed = rw (ea, eb, ec, ed) (go (eqb r.v0 v) (eqb r.v1 v) (eqb r.v2 v) (eqb r.v3 v))
-  where
-    go : (p q s t : Bool) → ltb 0 (cond p 1 0 + cond q 1 0 + cond s 1 0 + cond t 1 0) ≡ p || q || s || t
-    go true q s t = lt-ltb 0 (1 + cond q 1 0 + cond s 1 0 + cond t 1 0) (omega arith)
-    go false true s t = lt-ltb 0 (0 + 1 + cond s 1 0 + cond t 1 0) (omega arith)
-    go false false true t = lt-ltb 0 (0 + 0 + 1 + cond t 1 0) (omega arith)
-    go false false false true = refl
-    go false false false false = refl
+pub has_any : (r : Row) (v : ℕ) → ((eqb r.v0 v || eqb r.v1 v) || eqb r.v2 v) || eqb r.v3 v ≡ has r v
+unfolding has
+has_any r v = or_right (eqb r.v0 v) (eqb r.v1 v) (eqb r.v2 v) (eqb r.v3 v)
 
 -- ---- a leaf with it
 
 module _ (v : ℕ) {held r : Row} (is : held ≡ r) where
-  pub leaf_split : (held.child ≡ 0 → ⊥) → false ≡ leaf_with v r
+  pub leaf_split : (held.child ≡ 0 → ⊥) → eqb held.child 0 ≡ leaf_with v r
   unfolding leaf_with
   leaf_split d = rw (← is, ne_eqb held.child 0 d)
 

@@ -13,7 +13,7 @@ use Rattle.split.proofs.laws.Places.{le_or_lt}
 use Rattle.tables.specs.Layout.{row_width, record_width, no_row, no_record, row_at, record_at, put_row}
 use Rattle.tables.proofs.laws.Table.{Table, at_put, length_put}
 use Rattle.tables.proofs.laws.Rows.{rows, records}
-use Rattle.frame.specs.Steps.{over}
+use Rattle.tables.specs.Steps.{over}
 use Rattle.frame.specs.Undo.{restored, with_restored, without_row, without_record, released, emptied_records, undone}
 use Rattle.frame.proofs.laws.Steps.{over_keeps, none_over}
 use Rattle.closure.proofs.laws.Tables.{put_other}

@@ -1,7 +1,8 @@
 -- A slot entered. The counts of uses are the last numbers of the scratch table: the index and the patch lie before them.
 use mathlib.Core.Path.{◌≡◌, sym, ap, ◌∙◌}
 use mathlib.Core.List.{List}
-use Prim.Native.Nat.{ℕ, ◌+◌, ◌-◌, ◌*◌, ◌≤◌, ◌<◌}
+use mathlib.Core.Logic.{◌⊎◌, inl, inr}
+use Prim.Native.Nat.{ℕ, ◌+◌, ◌-◌, ◌*◌, ◌≤◌, ◌<◌, min}
 use native.Mathlib.Omega.{arith}
 use borrow.Author.Tests.{lt-ltb, le-ltb}
 use lib.ListN.{length, get_or, set, length-set}
@@ -9,6 +10,7 @@ use lib.Seq.{get_or-set_other, set_out}
 use borrow.Author.Rules.{rules}
 use Rattle.split.specs.declared.row.Row.{Row}
 use Rattle.split.specs.Split.{at}
+use Rattle.split.proofs.laws.Places.{le_or_lt}
 use Rattle.split.specs.Row.{corners_of}
 use Rattle.chain.specs.Chain.{Indexed, pushed}
 use Rattle.chain.proofs.laws.Pushed.{pushed_length, pushed_beyond, pushed_keyless, pushed_stored}
@@ -19,13 +21,13 @@ use Rattle.closure.specs.State.{links_at, bumped, counted, entered, row_pushed}
 
 -- ---- one use more
 
-pub bump_more : (u : ℕ) → u < 4294967295 → u + 1 ≡ bumped u
-bump_more u h = rw (lt-ltb u 4294967295 h)
-
-pub bump_last : (u : ℕ) → 4294967295 ≤ u → u ≡ bumped u
-bump_last u h = rw (le-ltb u 4294967295 h)
-
-pub ruleset counts = (bump_more, bump_last, rules)
+-- a sum that stops at the largest number
+bump_is : (u : ℕ) {x : ℕ} → u < 4294967296 → x ≡ min (u + 1) 4294967295 → x ≡ bumped u
+bump_is u {x} h e = go (le_or_lt 4294967295 u)
+  where
+    go : (4294967295 ≤ u) ⊎ (u < 4294967295) → x ≡ bumped u
+    go (inl a) = rw (le-ltb u 4294967295 a) (omega (arith, e, h, a))
+    go (inr a) = rw (lt-ltb u 4294967295 a) (omega (arith, e, a))
 
 module _ (s : List ℕ) (v : ℕ) where
   counted_length : length (counted s v) ≡ length s
@@ -61,9 +63,9 @@ entered_indexed {key} {i} {v} {s} x e k r m =
 pub link_stored : (s : List ℕ) (i k : ℕ) → k < links_at → i < 4 * most_rows → links_at + i < length s → set (set s (links_at + i) (get_or s k 0)) k (i + 1) ≡ pushed s links_at i k
 link_stored s i k h m r = sym (pushed_stored s links_at i k h r (omega arith))
 
-pub count_one : (s : List ℕ) (k : ℕ) {u : ℕ} → u ≡ bumped (get_or s (length s - links_at + k) 0) → set s (length s - links_at + k) u ≡ counted s k
+pub count_one : (s : List ℕ) (k : ℕ) {u : ℕ} → get_or s (length s - links_at + k) 0 < 4294967296 → u ≡ min (get_or s (length s - links_at + k) 0 + 1) 4294967295 → set s (length s - links_at + k) u ≡ counted s k
 unfolding counted
-count_one s k e = rw e
+count_one s k h e = rw (bump_is (get_or s (length s - links_at + k) 0) h e)
 
 module _ (s : List ℕ) (i : ℕ) {v k : ℕ} (e : k ≡ v) (r : 2 * links_at + i < length s) where
   pub enter_none : links_at ≤ k → s ≡ entered s i v

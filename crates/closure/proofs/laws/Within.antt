@@ -1,4 +1,5 @@
 -- A run that comes to its end is within the room, or it was stuck on the way; so the counts of an accepted call are within the room.
+use Rattle.std.proofs.Common.{None, Some}
 use mathlib.Core.Path.{◌≡◌}
 use mathlib.Core.List.{List, ◌∷◌}
 use mathlib.Core.Logic.{◌⊎◌, inl, inr}
@@ -8,7 +9,6 @@ use Rattle.tables.specs.Layout.{most_vertices}
 use Rattle.split.specs.declared.point.Point.{Point}
 use Rattle.split.proofs.laws.Places.{le_or_lt}
 use Rattle.tables.specs.declared.layout.Size.{Size}
-use Rattle.intake.specs.declared.answer.Found.TheVariants.{At, Nowhere}
 use Rattle.run.specs.Skeleton.{Skeleton, row_in, meshed}
 use Rattle.run.specs.Ready.{Ready}
 use Rattle.run.specs.Run.{blocking, split_patch, Run, clear, blocked, RunAll, done, passed, refined, Within, Over, vertices, rows, Stuck, full, below, after, StuckAll, here}
@@ -23,10 +23,10 @@ module _ (room : Size) where
     | inl a ↦ elim (le_or_lt (length S.rows) room.rows) [ inr l ↦ inr (rows l) | inl b ↦ inl (record { vertices = a; rows = b }) ]
   ]
 
-  clear_ends : {S S' : Skeleton} {r : ℕ} → blocking S.rows r ≡ Nowhere → S' ≡ split_patch S r → Within room S' ⊎ Stuck room S r
+  clear_ends : {S S' : Skeleton} {r : ℕ} → blocking S.rows r ≡ None → S' ≡ split_patch S r → Within room S' ⊎ Stuck room S r
   clear_ends {S} {S'} {r} k e = elim (within_or_over (split_patch S r)) [ inl w ↦ inl (rw e w) | inr o ↦ inr (full k o) ]
 
-  blocked_ends : {S T S' : Skeleton} {r b : ℕ} → blocking S.rows r ≡ At b → Run S b T → Within room T ⊎ Stuck room S b → Within room S' ⊎ Stuck room T r → Within room S' ⊎ Stuck room S r
+  blocked_ends : {S T S' : Skeleton} {r b : ℕ} → blocking S.rows r ≡ Some b → Run S b T → Within room T ⊎ Stuck room S b → Within room S' ⊎ Stuck room T r → Within room S' ⊎ Stuck room S r
   blocked_ends k p (inr s) y = inr (below k s)
   blocked_ends k p (inl w) (inl w') = inl w'
   blocked_ends k p (inl w) (inr s) = inr (after k p w s)

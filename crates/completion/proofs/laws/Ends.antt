@@ -1,4 +1,5 @@
 -- It ends (02, L10): each split adds two rows, so within any room the marks and the loop come to their end, or to a split that has no room.
+use Rattle.std.proofs.Common.{None, Option, Some}
 use mathlib.Core.Path.{◌≡◌, refl}
 use mathlib.Core.List.{List, [], ◌∷◌}
 use mathlib.Core.Logic.{◌⊎◌, inl, inr}
@@ -8,8 +9,6 @@ use native.Mathlib.Omega.{arith}
 use lib.ListN.{length}
 use Rattle.split.proofs.laws.Places.{le_or_lt}
 use Rattle.tables.specs.declared.layout.Size.{Size}
-use Rattle.intake.specs.declared.answer.Found.{Found}
-use Rattle.intake.specs.declared.answer.Found.TheVariants.{At, Nowhere}
 use Rattle.run.specs.Skeleton.{Skeleton, row_in}
 use Rattle.run.specs.Run.{Within, Over, vertices as over-vertices, rows as over-rows}
 use Rattle.completion.specs.Completion.{lowest, split_one, split_marks, Completes, complete, onward, Completed, StuckLoop, Stuck}
@@ -31,7 +30,7 @@ pub data LoopEnds (room : Size) (S : Skeleton) : Type 0 where
   completes : {S' : Skeleton} → Completes S S' → Within room S' → LoopEnds room S
   jams : StuckLoop room S → LoopEnds room S
 
-loop_next : {room : Size} {S : Skeleton} {q : ℕ} → lowest S ≡ At q → Within room (split_one S q) → LoopEnds room (split_one S q) → LoopEnds room S
+loop_next : {room : Size} {S : Skeleton} {q : ℕ} → lowest S ≡ Some q → Within room (split_one S q) → LoopEnds room (split_one S q) → LoopEnds room S
 loop_next k w (completes p v) = completes (onward k p) v
 loop_next k w (jams p) = jams (loop-onward k w p)
 
@@ -40,9 +39,9 @@ loop_within : (room : Size) (n : ℕ) (S : Skeleton) → room.rows < length S.ro
 loop_within room zero S h w = absurd (omega (arith, w.rows))
 loop_within room (suc n) S h w = go (lowest S) refl (loop_within room n)
   where
-    go : (f : Found) → lowest S ≡ f → ((T : Skeleton) → room.rows < length T.rows + n → Within room T → LoopEnds room T) → LoopEnds room S
-    go Nowhere k deeper = completes (complete k refl) w
-    go (At q) k deeper = elim (within_or_over room (split_one S q)) [
+    go : (f : Option ℕ) → lowest S ≡ f → ((T : Skeleton) → room.rows < length T.rows + n → Within room T → LoopEnds room T) → LoopEnds room S
+    go None k deeper = completes (complete k refl) w
+    go (Some q) k deeper = elim (within_or_over room (split_one S q)) [
       | inl v ↦ loop_next k v (deeper (split_one S q) (omega (arith, one_rows S q)) v)
       | inr v ↦ jams (loop-full k v)
     ]

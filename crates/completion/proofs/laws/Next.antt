@@ -1,4 +1,5 @@
 -- Which leaves are ripe after a split (02, L10): the leaf itself no more; another row as before, or if the vertex is new and it holds both ends of the edge; a child, if it holds both parents of a midpoint. A flag for each row is kept by these.
+use Rattle.std.proofs.Common.{None, Option, Some}
 use mathlib.Core.Path.{◌≡◌, refl}
 use mathlib.Core.Bool.{Bool, true, false, ◌&&◌, ◌||◌}
 use mathlib.Core.List.{List, [], ◌∷◌, ◌++◌}
@@ -16,8 +17,6 @@ use Rattle.split.specs.Row.{edge_of, child_of}
 use Rattle.split.proofs.laws.Rows.{row_step}
 use Rattle.tables.specs.declared.record.Record.{Record}
 use Rattle.tables.specs.Layout.{no_record}
-use Rattle.intake.specs.declared.answer.Found.{Found}
-use Rattle.intake.specs.declared.answer.Found.TheVariants.{At, Nowhere}
 use Rattle.intake.specs.Search.{any}
 use Rattle.sound.specs.Sound.{place}
 use Rattle.run.specs.Skeleton.{Skeleton, row_in}
@@ -28,9 +27,9 @@ use Rattle.run.proofs.laws.Listed.{append_first, cut_old, cut_own, cut_first, cu
 use Rattle.completion.specs.Completion.{parents_in, ripe, split_at}
 
 -- the vertex at which leaf s is split
-abbrev pub vertex_for : Skeleton → ℕ → Found → ℕ
-vertex_for S s (At v) = v
-vertex_for S s Nowhere = length S.records
+abbrev pub vertex_for : Skeleton → ℕ → Option ℕ → ℕ
+vertex_for S s (Some v) = v
+vertex_for S s None = length S.records
 
 any_same : (f g : ℕ → Bool) (n : ℕ) → ((k : ℕ) → k < n → f k ≡ g k) → any f n ≡ any g n
 unfolding any
@@ -41,13 +40,13 @@ shared : (a b c d : Bool) → a && (b || (c && d)) ≡ (a && b) || (a && c && d)
 shared true b c d = refl
 shared false b c d = refl
 
-module _ (S : Skeleton) (s : ℕ) (f : Found) where
+module _ (S : Skeleton) (s : ℕ) (f : Option ℕ) where
   rows_after : (split_at S s f).rows ≡ cut (vertex_for S s f) S.rows s
   rows_after = go f
     where
-      go : (x : Found) → (split_at S s x).rows ≡ cut (vertex_for S s x) S.rows s
-      go (At v) = refl
-      go Nowhere = refl
+      go : (x : Option ℕ) → (split_at S s x).rows ≡ cut (vertex_for S s x) S.rows s
+      go (Some v) = refl
+      go None = refl
 
   -- the leaf that was split
   pub own_ripe : s < length S.rows → ripe (split_at S s f) s ≡ false
@@ -68,7 +67,7 @@ module _ (S : Skeleton) (s : ℕ) (f : Found) where
   child_ripe x = rw (child_after x, eq-eqb _ 0 (row_step x (row_in S.rows s) s (vertex_for S s f)).leaf)
 
 -- at a vertex that was there already nothing else becomes ripe
-pub again_ripe : (S : Skeleton) (s v r : ℕ) → r < length S.rows → (r ≡ s → ⊥) → ripe (split_at S s (At v)) r ≡ ripe S r
+pub again_ripe : (S : Skeleton) (s v r : ℕ) → r < length S.rows → (r ≡ s → ⊥) → ripe (split_at S s (Some v)) r ≡ ripe S r
 unfolding ripe
 again_ripe S s v r h d = rw (cut_old v S.rows s r h d)
 
@@ -92,7 +91,7 @@ module _ {P : List Point} {i t : ℕ} {S : Skeleton} (y : Growing P i t S) (few 
   unfolding any
   any_more r = rw (length-append S.records (record_for e ∷ []), add-one, any, new_parents r, any_same (parents_in more r) (parents_in S.records r) (length S.records) (old_parents r))
 
-  pub new_ripe : (r : ℕ) → r < length S.rows → (r ≡ s → ⊥) → ripe (split_at S s Nowhere) r ≡ ripe S r || holding e (row_in S.rows r)
+  pub new_ripe : (r : ℕ) → r < length S.rows → (r ≡ s → ⊥) → ripe (split_at S s None) r ≡ ripe S r || holding e (row_in S.rows r)
   unfolding ripe holding
   new_ripe r h d =
       let w = row_in S.rows r in

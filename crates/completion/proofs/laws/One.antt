@@ -1,4 +1,5 @@
 -- The split of one leaf in a growing mesh (02, L10): it adds two rows and at most one vertex, keeps clauses 2 to 6, and splits that leaf alone.
+use Rattle.std.proofs.Common.{None, Option, Some}
 use mathlib.Core.Path.{◌≡◌, refl, sym, subst, ◌∙◌}
 use mathlib.Core.Bool.{Bool, true, false}
 use mathlib.Core.List.Memᴰ
@@ -13,8 +14,6 @@ use Rattle.split.specs.declared.point.Point.{Point}
 use Rattle.split.specs.Row.{edge_of}
 use Rattle.split.proofs.laws.Places.{le_or_lt}
 use Rattle.tables.specs.Mesh.{Mesh}
-use Rattle.intake.specs.declared.answer.Found.{Found}
-use Rattle.intake.specs.declared.answer.Found.TheVariants.{At, Nowhere}
 use Rattle.intake.specs.Search.{first}
 use Rattle.intake.proofs.laws.Search.{first_none}
 use Rattle.sound.specs.Sound.{Records}
@@ -39,9 +38,9 @@ pub one_rows : (S : Skeleton) (s : ℕ) → length (split_one S s).rows ≡ leng
 unfolding split_one
 one_rows S s = go (first (halves S.records (edge_of (row_in S.rows s))) (length S.records))
   where
-    go : (f : Found) → length (split_at S s f).rows ≡ length S.rows + 2
-    go (At v) = cut_length v S.rows s
-    go Nowhere = cut_length (length S.records) S.rows s
+    go : (f : Option ℕ) → length (split_at S s f).rows ≡ length S.rows + 2
+    go (Some v) = cut_length v S.rows s
+    go None = cut_length (length S.records) S.rows s
 
 -- and at most one vertex
 pub record Counted (S T : Skeleton) : Type 0 where
@@ -52,9 +51,9 @@ pub one_records : (S : Skeleton) (s : ℕ) → Counted S (split_one S s)
 unfolding split_one
 one_records S s = go (first (halves S.records (edge_of (row_in S.rows s))) (length S.records))
   where
-    go : (f : Found) → Counted S (split_at S s f)
-    go (At v) = record { least = omega arith; most = omega arith }
-    go Nowhere = let e = length-append S.records (record_for (edge_of (row_in S.rows s)) ∷ []) in record { least = omega (arith, e); most = omega (arith, e) }
+    go : (f : Option ℕ) → Counted S (split_at S s f)
+    go (Some v) = record { least = omega arith; most = omega arith }
+    go None = let e = length-append S.records (record_for (edge_of (row_in S.rows s)) ∷ []) in record { least = omega (arith, e); most = omega (arith, e) }
 
 -- ---- the vertex that records an edge
 
@@ -99,13 +98,13 @@ one_divided {P} {i} {t} {S} s y few o = go (first (halves S.records (edge_of (ro
     ready : Ripe (meshed P S) (edge_of (row_in S.rows s)) s
     ready = record { there = o.there; leaf = o.leaf; shallow = o.shallow; edge = refl }
 
-    go : (f : Found) → first (halves S.records (edge_of (row_in S.rows s))) (length S.records) ≡ f → length (split_at S s f).records < 4294967295 → Divided P i t S s (split_at S s f)
-    go (At v) k less =
+    go : (f : Option ℕ) → first (halves S.records (edge_of (row_in S.rows s))) (length S.records) ≡ f → length (split_at S s f).records < 4294967295 → Divided P i t S s (split_at S s f)
+    go (Some v) k less =
         let w = first_found _ _ v k in
         divided y y.based (cuts_again y.grown less (halves_is y _ v w.below w.holds) ready)
-    go Nowhere k less =
+    go None k less =
         let total = length-append S.records (record_for (edge_of (row_in S.rows s)) ∷ []) in
         let free : (u : ℕ) → Records (meshed P S) i u (edge_of (row_in S.rows s)) → ⊥ = λ u w. let z : ◌≡◌ {A = Bool} true false = sym (is_halves y _ u w) ∙ first_none _ _ k u w.there in let x : ◌≡◌ {A = ℕ} 0 1 = cc in absurd (omega arith) in
-        let same : meshed P (split_at S s Nowhere) ≡ wider P S (edge_of (row_in S.rows s)) (cut (length S.records) S.rows s)
+        let same : meshed P (split_at S s None) ≡ wider P S (edge_of (row_in S.rows s)) (cut (length S.records) S.rows s)
         = λ j. record { points = points_next P S y.based (record_for (edge_of (row_in S.rows s))) j; records = S.records ++ (record_for (edge_of (row_in S.rows s)) ∷ []); rows = cut (length S.records) S.rows s } in
         divided y (omega (arith, y.based, total)) (subst (λ (n : Mesh). Cuts (meshed P S) n i t s (length S.records)) (sym same) (cuts_new y (omega (arith, less, total)) (edge_of (row_in S.rows s)) s free ready))

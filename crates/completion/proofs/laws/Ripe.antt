@@ -1,4 +1,5 @@
 -- A leaf that holds both parents of a midpoint (02, L10): it is forced, it may be split, and where there is none the mesh conforms.
+use Rattle.std.proofs.Common.{None, Some}
 use mathlib.Core.Path.{◌≡◌, refl, sym, ◌∙◌}
 use mathlib.Core.Bool.{Bool, true, false}
 use mathlib.Core.Logic.{inl, inr}
@@ -11,7 +12,6 @@ use Rattle.split.proofs.laws.Places.{le_or_lt}
 use Rattle.tables.specs.Mesh.{Mesh}
 use Rattle.forest.specs.Element.{Element}
 use Rattle.forest.specs.Closed.{Closed}
-use Rattle.intake.specs.declared.answer.Found.TheVariants.{At, Nowhere}
 use Rattle.intake.proofs.laws.Search.{first_none, any_has, any_some}
 use Rattle.sound.specs.Sound.{vertices, rows, record_of, row_of, Grown, Conforming}
 use Rattle.sound.specs.Forest.{forest_of, element_of}
@@ -60,7 +60,7 @@ module _ {m : Mesh} {i t : ℕ} (g : Grown m i t) where
       held = rw (ne_eqb (record_of m w.vertex).second 4294967295 (g.parted.midpoints w.vertex w.midpoint w.below), holds_has (row_of m q) _ w.first, holds_has (row_of m q) _ w.second)
 
   -- no such leaf: clause 7 (02, L10: until none is left)
-  pub none_conforming : lowest (skeleton m) ≡ Nowhere → Conforming m i
+  pub none_conforming : lowest (skeleton m) ≡ None → Conforming m i
   none_conforming k = record {
     leaf = λ q v h l a b x y.
         let z : ◌≡◌ {A = Bool} true false = sym (hanging_ripe q (record { there = h; leaf = l; vertex = v; midpoint = a; below = b; first = x; second = y })) ∙ first_none _ _ k q h in
@@ -87,5 +87,5 @@ module _ {m : Mesh} {i t : ℕ} (g : Grown m i t) where
     hanging_open = record { there = w.there; leaf = w.leaf; shallow = hanging_shallow }
 
   -- the row that the loop splits next
-  pub lowest_hanging : (q : ℕ) → lowest (skeleton m) ≡ At q → Hanging m i q
+  pub lowest_hanging : (q : ℕ) → lowest (skeleton m) ≡ Some q → Hanging m i q
   lowest_hanging q k = let w = first_found _ _ q k in ripe_hanging q w.below w.holds

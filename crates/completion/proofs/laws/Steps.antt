@@ -1,4 +1,5 @@
 -- What the second engine keeps true (02, L10): clauses 2 to 6 hold, the mesh grows from that at entry, and only elements of a closed set that holds the marks are split. At the end the mesh is sound.
+use Rattle.std.proofs.Common.{Some}
 use mathlib.Core.Path.{◌≡◌, refl, sym, subst, ◌∙◌}
 use mathlib.Core.List.Memᴰ
 use mathlib.Core.List.{List, ◌∷◌, Memᴰ}
@@ -9,7 +10,6 @@ use lib.ListN.{length}
 use Rattle.split.specs.declared.point.Point.{Point}
 use Rattle.forest.specs.Element.{Element}
 use Rattle.forest.specs.Closed.{Closed}
-use Rattle.intake.specs.declared.answer.Found.TheVariants.{At}
 use Rattle.sound.specs.Forest.{forest_of, element_of}
 use Rattle.run.specs.Skeleton.{Skeleton, row_in, meshed}
 use Rattle.run.specs.Ready.{Ready, Growing, Open}
@@ -75,7 +75,7 @@ module _ (P : List Point) (i t : ℕ) (Z : Element → Type 0) where
       }
 
   -- the lowest ripe leaf is of Z, since Z is closed (02, L10: it splits exactly the same elements)
-  pub went_lowest : {S : Skeleton} (q : ℕ) → Growing P i t S → length (split_one S q).records < 4294967295 → Closed (forest_of (meshed P S) t) Z → Inside (meshed P S) t Z → lowest S ≡ At q → Went P i t Z S (split_one S q)
+  pub went_lowest : {S : Skeleton} (q : ℕ) → Growing P i t S → length (split_one S q).records < 4294967295 → Closed (forest_of (meshed P S) t) Z → Inside (meshed P S) t Z → lowest S ≡ Some q → Went P i t Z S (split_one S q)
   went_lowest {S} q y few c d k =
       let w = lowest_hanging y.grown q k in
       went_one q y few d (hanging_open y.grown q w) (hanging_forced y.grown q w Z c d)

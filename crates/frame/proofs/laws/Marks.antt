@@ -1,30 +1,38 @@
--- Tests on marks: one mark, and a loop that asks whether one of them passes.
-use mathlib.Core.Path.{◌≡◌, refl, sym, ap, ◌∙◌}
-use mathlib.Core.Bool.{Bool, true, false}
+-- Tests on marks: one mark, and whether one of them passes.
+use mathlib.Core.Path.{◌≡◌, refl, sym, ◌∙◌}
+use mathlib.Core.Bool.{Bool, true, false, not}
 use mathlib.Core.List.{List}
 use mathlib.Core.Logic.{◌↔◌}
-use Prim.Native.Nat.{ℕ, ◌+◌, ◌≤◌, ◌<◌}
+use Prim.Native.Nat.{ℕ, ◌<◌}
 use native.Mathlib.Omega.{arith}
-use native.Mathlib.Decide.{ℕ_discrete}
-use borrow.Author.Tests.{eq-eqb, ne_eqb, eqb-true}
-use lib.Dec.{eqb, leb}
+use borrow.Author.Tests.{eq-eqb, ne_eqb, eqb-true, ltb-false, not-true}
+use borrow.Author.Rules.{rules}
+use lib.Dec.{eqb, leb, ltb}
 use lib.ListN.{length, get_or}
+use Rattle.std.proofs.Common.{Option, Some, None, Ok, Err}
+use Rattle.std.proofs.lemmas.List.Quantifiers.{position-Some}
+use Rattle.std.proofs.lemmas.List.Folds.{list_any_at, list_any_none}
+use Rattle.std.proofs.lemmas.List.Elements.{All-from_get_or}
+use Rattle.std.proofs.lemmas.List.Sums.{prefix_len_passes}
+use Rattle.std.specs.Bool.{⊤}
+use Rattle.std.specs.List.{position, position_or_len, list_any}
 use Rattle.split.specs.declared.row.Row.{Row}
 use Rattle.split.proofs.laws.Tests.{both}
 use Rattle.tables.specs.Layout.{row_at}
-use Rattle.intake.specs.declared.answer.Found.{Found}
-use Rattle.intake.specs.declared.answer.Found.TheVariants.{At, Nowhere}
-use Rattle.intake.specs.declared.answer.Verdict.{Verdict}
-use Rattle.intake.specs.declared.answer.Verdict.TheVariants.{Passed, Refused}
+use Rattle.tables.specs.declared.refusal.Cause.TheVariants.{Mark, Depth}
+use Rattle.tables.specs.declared.refusal.Refusal.{Refusal}
+use Rattle.tables.specs.Refusal.{refusal_at, refused}
 use Rattle.intake.specs.Search.{first, any}
-use Rattle.intake.specs.Verdict.{at, when}
-use Rattle.intake.proofs.laws.Search.{any_has, any_none}
+use Rattle.intake.specs.Verdict.{Verdict, at, when}
+use Rattle.intake.proofs.laws.First.{found_first, none_first}
+use Rattle.intake.proofs.laws.Search.{any_has, any_some}
+use Rattle.intake.proofs.laws.Verdicts.{stands, goes_on}
 use Rattle.frame.specs.Marks.{deep_at, on_marks}
 
 -- ---- one mark
 
 module _ (w : List ℕ) (r : ℕ) {held : Row} (is : held ≡ row_at w r) where
-  pub deep_split : (held.child ≡ 0 → ⊥) → false ≡ deep_at w r
+  pub deep_split : (held.child ≡ 0 → ⊥) → eqb held.child 0 ≡ deep_at w r
   unfolding deep_at
   deep_split d = rw (← is, ne_eqb held.child 0 d)
 
@@ -39,67 +47,80 @@ pub deep_at_lem : (w : List ℕ) (r : ℕ) → deep_at w r ≡ true ↔ (((row_a
 unfolding deep_at
 deep_at_lem w r = (λ e. let (leaf, deep) = both _ _ e in (eqb-true _ _ leaf, eqb-true _ _ deep), λ d. rw (d.0, d.1))
 
--- ---- whether one passes: none below i does
+-- ---- a list of marks, by place
 
-pub record Spared (test : ℕ → Bool) (n i : ℕ) : Type 0 where
-  pub none : (k : ℕ) → k < i → test k ≡ false
-  pub within : i ≤ n
+module _ (p : ℕ → Bool) (l : List ℕ) where
+  abbrev at_place : ℕ → Bool
+  at_place j = p (get_or l j 0)
 
-pub spared_start : {test : ℕ → Bool} {n : ℕ} → Spared test n 0
-spared_start = record { none = λ k h. absurd (omega arith); within = omega arith }
-
--- r is the answer of a call that ran the test at place i
-module _ {test : ℕ → Bool} {n i : ℕ} (s : Spared test n i) where
-  pub spared_on : {r : Bool} → i < n → r ≡ test i → r ≡ false → Spared test n (i + 1)
-  spared_on {r} h e q = record { none = λ k l. go k l (ℕ_discrete k i); within = omega arith }
+  -- the place that `position` gives is the smallest
+  pub position_first : position p l ≡ first (λ j. p (get_or l j 0)) (length l)
+  position_first = go (ltb (position_or_len p l) (length l)) refl (position p l) refl
     where
-      go : (k : ℕ) → k < i + 1 → Dec (k ≡ i) → test k ≡ false
-      go k l (yes f) = ap test f ∙ sym e ∙ q
-      go k l (no d) = s.none k (omega arith)
+      go : (b : Bool) → ltb (position_or_len p l) (length l) ≡ b → (f : Option ℕ) → position p l ≡ f → position p l ≡ first at_place (length l)
+      go true t f e = let found : position p l ≡ Some (position_or_len p l) = rw t in
+          let (low, holds, before) = position-Some p l (position_or_len p l) 0 found in
+          found ∙ sym (found_first at_place (length l) (position_or_len p l) (record { below = low; holds = holds; not_before = before }))
+      go false t f e = let found : position p l ≡ None = rw t in
+          let past = ltb-false (position_or_len p l) (length l) t in
+          found ∙ sym (none_first at_place (length l) (record { fails = λ k h. not-true (p (get_or l k 0)) (prefix_len_passes (λ (x : ℕ). not (p x)) l k 0 (omega (arith, past, h))) }))
 
-  pub spared_stop : {r : Bool} → i < n → r ≡ test i → r ≡ true → true ≡ any test n
-  spared_stop h e q = sym (any_has test n i h (sym e ∙ q))
+  -- whether some mark passes
+  pub list_any_places : list_any p l ≡ any (λ j. p (get_or l j 0)) (length l)
+  list_any_places = go (any at_place (length l)) refl
+    where
+      never : any at_place (length l) ≡ false → (k : ℕ) → k < length l → (b : Bool) → p (get_or l k 0) ≡ b → b ≡ false
+      never e k h true f = sym (any_has at_place (length l) k h f) ∙ e
+      never e k h false f = refl
 
-  pub spared_end : n ≤ i → false ≡ any test n
-  spared_end h = sym (any_none test n (λ k l. s.none k (omega arith)))
-
-pub ruleset sparing = (spared_start, spared_on, spared_stop, spared_end)
+      go : (b : Bool) → any at_place (length l) ≡ b → list_any p l ≡ any at_place (length l)
+      go true e = let (k, h, t) = any_some at_place (length l) e in list_any_at p l k 0 h t ∙ sym e
+      go false e = list_any_none p l (All-from_get_or (λ (x : ℕ). p x ≡ false) l 0 (λ k h. never e k h (p (get_or l k 0)) refl)) ∙ sym e
 
 -- ---- the verdict
 
 module _ (w : List ℕ) (n : ℕ) (marks : List ℕ) where
   -- the first mark that names no row, and whether one names a leaf of depth 60
-  abbrev pub missings : Found
+  abbrev pub missings : Option ℕ
   missings = first (λ j. leb n (get_or marks j 0)) (length marks)
 
   abbrev pub deeps : Bool
   deeps = any (λ j. deep_at w (get_or marks j 0)) (length marks)
 
-  pub judged_missing : {f : Found} {p : ℕ} → f ≡ missings → f ≡ At p → Refused 10 p ≡ on_marks w n marks
-  unfolding on_marks
-  judged_missing e f = rw (← e, f)
+  -- what the code finds, and what it says of the first mark alone
+  module _ {f : Option ℕ} {r : Verdict} (e : f ≡ position (λ m. leb n m) marks) (v : r ≡ at f Mark (Ok tt)) where
+    found : f ≡ missings
+    found = e ∙ position_first (λ m. leb n m) marks
 
-  pub judged_deep : {f : Found} {b : Bool} → f ≡ missings → f ≡ Nowhere → b ≡ deeps → b ≡ true → Refused 11 0 ≡ on_marks w n marks
-  unfolding on_marks
-  judged_deep e f g h = rw (← e, f, ← g, h)
+    pub judged_missing : {y : Refusal} → r ≡ Err y → Err y ≡ on_marks w n marks
+    unfolding on_marks
+    judged_missing h = stands Mark (when deeps Depth (Ok tt)) found v h
 
-  pub judged_passed : {f : Found} {b : Bool} → f ≡ missings → f ≡ Nowhere → b ≡ deeps → b ≡ false → Passed ≡ on_marks w n marks
-  unfolding on_marks
-  judged_passed e f g h = rw (← e, f, ← g, h)
+    module _ {x : ⊤} (h : r ≡ Ok x) {b : Bool} (a : b ≡ list_any (λ m. deep_at w m) marks) where
+      deeps_are : b ≡ deeps
+      deeps_are = a ∙ list_any_places (λ m. deep_at w m) marks
+
+      pub judged_deep : b ≡ true → {y : Refusal} → y ≡ refusal_at Depth 0 → Err y ≡ on_marks w n marks
+      unfolding on_marks
+      judged_deep g z = goes_on Mark (when deeps Depth (Ok tt)) found v h (rw (← deeps_are, g, z))
+
+      pub judged_passed : b ≡ false → Ok tt ≡ on_marks w n marks
+      unfolding on_marks
+      judged_passed g = goes_on Mark (when deeps Depth (Ok tt)) found v h (rw (← deeps_are, g))
 
   -- what a verdict tells
   pub data Told (v : Verdict) : Type 0 where
-    missing : (p : ℕ) → missings ≡ At p → v ≡ Refused 10 p → Told v
-    deep : missings ≡ Nowhere → deeps ≡ true → v ≡ Refused 11 0 → Told v
-    passed : missings ≡ Nowhere → deeps ≡ false → v ≡ Passed → Told v
+    missing : (p : ℕ) → missings ≡ Some p → v ≡ refused Mark p → Told v
+    deep : missings ≡ None → deeps ≡ true → v ≡ refused Depth 0 → Told v
+    passed : missings ≡ None → deeps ≡ false → v ≡ Ok tt → Told v
 
   pub told : Told (on_marks w n marks)
   unfolding on_marks
   told = go (missings) refl deeps refl
     where
-      go : (f : Found) → missings ≡ f → (b : Bool) → any (λ j. deep_at w (get_or marks j 0)) (length marks) ≡ b → Told (at f 10 (when b 11 Passed))
-      go (At p) e b g = missing p e refl
-      go Nowhere e true g = deep e g refl
-      go Nowhere e false g = passed e g refl
+      go : (f : Option ℕ) → missings ≡ f → (b : Bool) → deeps ≡ b → Told (at f Mark (when b Depth (Ok tt)))
+      go (Some p) e b g = missing p e refl
+      go None e true g = deep e g refl
+      go None e false g = passed e g refl
 
-pub ruleset judging = (judged_missing, judged_deep, judged_passed)
+pub ruleset judging = (judged_missing, judged_deep, judged_passed, rules)

@@ -10,7 +10,7 @@ use lib.ListN.{length}
 use Rattle.tables.specs.Layout.{point_width, record_width, row_width, no_row, no_record, row_at, record_at}
 use Rattle.tables.proofs.laws.Table.{length_put, put_past}
 use Rattle.tables.proofs.laws.Rows.{rows, records, points}
-use Rattle.frame.specs.Steps.{stepped, over}
+use Rattle.tables.specs.Steps.{stepped, over}
 use Rattle.frame.specs.Points.{halfway_at, with_point}
 use Rattle.frame.specs.Undo.{restored, with_restored, without_row, without_record}
 

@@ -6,38 +6,37 @@ use Prim.Native.Nat.{ℕ, zero, suc, ◌+◌, ◌<◌}
 use native.Mathlib.Nat.{eq-or-lt_of_le, le_of_suc-le-suc}
 use native.Mathlib.Numerals.{add-one}
 use native.Mathlib.Omega.{arith}
-use Rattle.intake.specs.declared.answer.Found.{Found}
-use Rattle.intake.specs.declared.answer.Found.TheVariants.{At, Nowhere}
+use Rattle.std.proofs.Common.{Option, Some, None}
 use Rattle.intake.specs.Search.{or_at, first, any}
 
 -- ---- the smallest place
 
 module _ (test : ℕ → Bool) where
-  pub first_start : first test 0 ≡ Nowhere
+  pub first_start : first test 0 ≡ None
   unfolding first
   first_start = refl
 
   -- a loop passed place n
-  pub first_passed : (n : ℕ) → first test n ≡ Nowhere → test n ≡ false → first test (n + 1) ≡ Nowhere
+  pub first_passed : (n : ℕ) → first test n ≡ None → test n ≡ false → first test (n + 1) ≡ None
   unfolding first
   first_passed n p q = rw (add-one, first, p, q)
 
   -- a loop stopped at place n: later places do not matter
-  pub first_stopped : (n m : ℕ) → first test n ≡ Nowhere → test n ≡ true → n < m → first test m ≡ At n
+  pub first_stopped : (n m : ℕ) → first test n ≡ None → test n ≡ true → n < m → first test m ≡ Some n
   unfolding first
   first_stopped n zero p q h = absurd (omega arith)
   first_stopped n (suc m) p q h = elim (eq-or-lt_of_le (le_of_suc-le-suc h)) [ inl e ↦ rw (first, ← e, p, q) | inr l ↦ rw (first, first_stopped n m p q l) ]
 
   -- nothing was found
-  pub first_none : (n : ℕ) → first test n ≡ Nowhere → (k : ℕ) → k < n → test k ≡ false
+  pub first_none : (n : ℕ) → first test n ≡ None → (k : ℕ) → k < n → test k ≡ false
   unfolding first
   first_none zero e k h = absurd (omega arith)
   first_none (suc n) e k h = go (first test n) (test n) refl refl e (first_none n)
     where
-      go : (f : Found) (b : Bool) → first test n ≡ f → test n ≡ b → or_at f b n ≡ Nowhere → (first test n ≡ Nowhere → (k : ℕ) → k < n → test k ≡ false) → test k ≡ false
-      go (At p) b f t x ih = let z : ◌≡◌ {A = ℕ} 0 1 = cc in absurd (omega arith)
-      go Nowhere true f t x ih = let z : ◌≡◌ {A = ℕ} 0 1 = cc in absurd (omega arith)
-      go Nowhere false f t x ih = elim (eq-or-lt_of_le (le_of_suc-le-suc h)) [ inl i ↦ ap test i ∙ t | inr l ↦ ih f k l ]
+      go : (f : Option ℕ) (b : Bool) → first test n ≡ f → test n ≡ b → or_at f b n ≡ None → (first test n ≡ None → (k : ℕ) → k < n → test k ≡ false) → test k ≡ false
+      go (Some p) b f t x ih = let z : ◌≡◌ {A = ℕ} 0 1 = cc in absurd (omega arith)
+      go None true f t x ih = let z : ◌≡◌ {A = ℕ} 0 1 = cc in absurd (omega arith)
+      go None false f t x ih = elim (eq-or-lt_of_le (le_of_suc-le-suc h)) [ inl i ↦ ap test i ∙ t | inr l ↦ ih f k l ]
 
   -- ---- whether there is one
 

@@ -1,25 +1,22 @@
--- Tests 1 and 2 in their order: which verdict stands once the tests before it have passed.
-use mathlib.Core.Path.{◌≡◌}
-use mathlib.Core.Bool.{true, false}
-use Prim.Native.Nat.{ℕ, ◌/◌}
-use Rattle.intake.specs.declared.answer.Verdict.{Verdict}
-use Rattle.intake.specs.declared.answer.Verdict.TheVariants.{Refused}
-use Rattle.intake.specs.Causes.{wrong_input, wrong_lent, has_no_room}
-use Rattle.intake.specs.Verdict.{fitting}
+-- A row of tests, each asked by a call of its own: where one refuses its refusal stands, and where it passes the rest decides.
+use Rattle.std.proofs.Common.{◌≡◌, sym, ◌∙◌, ℕ, Option, Some, None, Ok, Err}
+use Rattle.std.specs.Bool.{⊤}
+use Rattle.tables.specs.declared.refusal.Cause.{Cause}
+use Rattle.tables.specs.declared.refusal.Refusal.{Refusal}
+use Rattle.intake.specs.Verdict.{Verdict, at}
 
-module _ (f e p r w : ℕ) (next : Verdict) where
-  pub input_refused : wrong_input f e ≡ true → fitting f e p r w next ≡ Refused 1 0
-  unfolding fitting
-  input_refused a = rw a
+-- f is what the call found, g what it looked for, r the verdict on f alone
+module _ (cause : Cause) (next : Verdict) {f g : Option ℕ} {r : Verdict} (found : f ≡ g) (e : r ≡ at f cause (Ok tt)) where
+  pub stands : {y : Refusal} → r ≡ Err y → Err y ≡ at g cause next
+  stands {y} h = rw (← found) (go f (sym h ∙ e))
+    where
+      go : (f : Option ℕ) → Err y ≡ at f cause (Ok tt) → Err y ≡ at f cause next
+      go (Some p) z = z
+      go None z = cc
 
-  pub lent_refused : wrong_input f e ≡ false → wrong_lent p r w ≡ true → fitting f e p r w next ≡ Refused 1 0
-  unfolding fitting
-  lent_refused a b = rw (a, b)
-
-  pub room_refused : wrong_input f e ≡ false → wrong_lent p r w ≡ false → has_no_room (f / 3) (e / 4) p r w ≡ true → fitting f e p r w next ≡ Refused 2 0
-  unfolding fitting
-  room_refused a b c = rw (a, b, c)
-
-  pub lengths_passed : wrong_input f e ≡ false → wrong_lent p r w ≡ false → has_no_room (f / 3) (e / 4) p r w ≡ false → fitting f e p r w next ≡ next
-  unfolding fitting
-  lengths_passed a b c = rw (a, b, c)
+  pub goes_on : {x : ⊤} {s : Verdict} → r ≡ Ok x → s ≡ next → s ≡ at g cause next
+  goes_on {x} {s} h z = rw (← found) (go f (sym h ∙ e))
+    where
+      go : (f : Option ℕ) → Ok x ≡ at f cause (Ok tt) → s ≡ at f cause next
+      go (Some p) y = cc
+      go None y = z

@@ -1,55 +1,23 @@
--- The loop that counts the leaves.
-use mathlib.Core.Path.{◌≡◌, refl}
-use mathlib.Core.Bool.{Bool, true, false, cond}
-use mathlib.Core.List.{List}
-use Prim.Native.Nat.{ℕ, ◌+◌, ◌≤◌, ◌<◌}
+-- How many places of a range pass a test.
+use mathlib.Core.Path.{◌≡◌, refl, sym, ap, ◌∙◌}
+use mathlib.Core.Bool.{Bool, cond}
+use mathlib.Core.List.{List, [], ◌∷◌, ◌++◌, map-id}
+use Prim.Native.Nat.{ℕ, zero, suc, ◌+◌}
 use native.Mathlib.Numerals.{add-one}
 use native.Mathlib.Omega.{arith}
-use borrow.Author.Tests.{eq-eqb, ne_eqb}
-use Rattle.split.specs.declared.row.Row.{Row}
-use Rattle.tables.specs.Layout.{row_at, most_rows}
+use Rattle.std.proofs.Common.{count_by}
+use Rattle.std.proofs.lemmas.List.Sums.{sum_by-append}
+use Rattle.std.proofs.lemmas.List.FromFn.{map-range_with_len_more}
+use Rattle.std.specs.List.{range_with_len}
 use Rattle.intake.specs.Search.{count}
-use Rattle.opening.proofs.laws.Counting.{count_below}
-use Rattle.leaves.specs.Walk.{leaf_at}
 
--- 1 for a leaf
-abbrev pub weight_at : List ℕ → ℕ → ℕ
-weight_at w k = cond (leaf_at w k) 1 0
+one_more : (n : ℕ) → range_with_len 0 (suc n) ≡ range_with_len 0 n ++ n ∷ []
+one_more n = rw add-one at (sym (map-id _) ∙ map-range_with_len_more (λ x. x) 0 n n (omega arith) ∙ ap (λ (l : List ℕ). l ++ n ∷ []) (map-id _))
 
-module _ (w : List ℕ) (k : ℕ) {h : Row} (e : h ≡ row_at w k) where
-  pub weight_leaf : h.child ≡ 0 → 1 ≡ weight_at w k
-  weight_leaf l = rw (eq-eqb (row_at w k).child 0 (rw e at l))
-
-  pub weight_split : (h.child ≡ 0 → ⊥) → 0 ≡ weight_at w k
-  weight_split l = rw (ne_eqb (row_at w k).child 0 (rw e at l))
-
-pub ruleset weighing = (weight_leaf, weight_split)
-
--- of the first k rows as many as `size` are leaves
-pub record Counted (w : List ℕ) (n k size : ℕ) : Type 0 where
-  pub within : k ≤ n
-  pub counted : size ≡ count (leaf_at w) k
-
-pub counted_none : {w : List ℕ} {n : ℕ} → Counted w n 0 0
+pub count_range : (test : ℕ → Bool) (n : ℕ) → count_by test (range_with_len 0 n) ≡ count test n
 unfolding count
-counted_none = record { within = omega arith; counted = refl }
-
-module _ {w : List ℕ} {n k size : ℕ} (x : Counted w n k size) where
-  pub counted_low : size ≤ k
-  counted_low = omega (arith, x.counted, count_below (leaf_at w) k)
-
-  pub counted_fits : n ≤ most_rows → k < n → {a : ℕ} → a ≡ weight_at w k → size + a < 100001
-  counted_fits f h {a} e = omega (arith, counted_low, small (leaf_at w k) e)
-    where
-      small : (t : Bool) → a ≡ cond t 1 0 → a ≤ 1
-      small true f = omega arith
-      small false f = omega arith
-
-  pub counted_next : k < n → {a : ℕ} → a ≡ weight_at w k → Counted w n (k + 1) (size + a)
-  unfolding count
-  counted_next h e = record { within = omega arith; counted = rw (add-one k, count, e, x.counted) }
-
-  pub counted_all : n ≤ k → size ≡ count (leaf_at w) n
-  counted_all h = let e : k ≡ n = omega (arith, x.within) in rw (← e) x.counted
-
-pub ruleset counting = (counted_none, counted_next, counted_all)
+count_range test zero = refl
+count_range test (suc n) = ap (count_by test) (one_more n) ∙ last (range_with_len 0 n) ∙ ap (λ (k : ℕ). k + cond (test n) 1 0) (count_range test n)
+  where
+    last : (l : List ℕ) → count_by test (l ++ n ∷ []) ≡ count_by test l + cond (test n) 1 0
+    last l = omega (arith, sum_by-append (λ (x : ℕ). cond (test x) 1 0) l (n ∷ []))

@@ -1,7 +1,9 @@
 -- The call on sound tables: root by root into cleared lists, and the two tests for room.
+use Rattle.std.proofs.Common.{Ok, Err, count_by}
+use Rattle.std.specs.List.{range_with_len}
 use mathlib.Core.Path.{◌≡◌, refl, sym, ap, ◌∙◌}
 use mathlib.Core.List.{List, ◌++◌, map}
-use mathlib.Core.Logic.{inl, inr}
+use mathlib.Core.Logic.{◌⊎◌, inl, inr}
 use Prim.Native.Nat.{ℕ, ◌+◌, ◌≤◌, ◌<◌}
 use native.Mathlib.Omega.{arith}
 use lib.ListN.{length, set, replicate, length-append, length-replicate, length-map}
@@ -9,14 +11,15 @@ use lib.Seq.{sets, sets-eq, set_out}
 use Rattle.tables.specs.Layout.{most_rows}
 use Rattle.tables.specs.Mesh.{padded}
 use Rattle.tables.specs.Report.{listed}
+use Rattle.tables.specs.declared.refusal.Cause.TheVariants.{Room}
+use Rattle.tables.specs.declared.refusal.Refusal.{Refusal}
+use Rattle.tables.specs.Refusal.{refusal_at}
 use Rattle.tables.proofs.laws.Parts.{drop_replicate}
-use Rattle.intake.specs.Search.{count}
 use Rattle.opening.proofs.laws.Counting.{count_below}
-use Rattle.leaves.specs.declared.answer.Listed.{Listed}
-use Rattle.leaves.specs.declared.answer.Listed.TheVariants.{Done, Refused}
 use Rattle.leaves.specs.Listing.{level_of, level_in, tree_of, trees_below, listing}
-use Rattle.leaves.specs.Lists.{Refuses, Accepts, OnRoom, short, fits}
+use Rattle.leaves.specs.Lists.{reported, Refuses, Accepts, OnRoom, short, fits}
 use Rattle.leaves.specs.Walk.{rows_of, rows_in, leaf_at, Stores, StoresOne, Rooted, Listable, Roomy, Listing}
+use Rattle.leaves.proofs.laws.Counting.{count_range}
 use Rattle.leaves.proofs.laws.Steps.{trees_none, trees_next, trees_grow, listing_rows, levels_rows}
 use Rattle.leaves.proofs.laws.Walking.{stores_none, stores_both, stores_list_size, stores_levels_size}
 
@@ -70,13 +73,13 @@ sets_cleared n a h =
     rw e at (sets-eq a (replicate n 0) 0 (rw (length-replicate {A = ℕ} n 0) (omega arith))) ∙ ap (λ (r : List ℕ). a ++ r) (drop_replicate 0 (length a) n h)
 
 module _ {w : List ℕ} {n : ℕ} {l v : List ℕ} (x : Roomy w n l v) {l₁ v₁ : List ℕ} (el : l₁ ≡ replicate (length l) 0) (ev : v₁ ≡ replicate (length v) 0) where
-  pub filled : {e : ℕ} {l' v' : List ℕ} → Stores w (trees_below (rows_in w) n) 0 l₁ v₁ e l' v' → Accepts (rows_of w n) l v (Done e) l' v'
+  pub filled : {e : ℕ} {l' v' : List ℕ} → Stores w (trees_below (rows_in w) n) 0 l₁ v₁ e l' v' → Accepts (rows_of w n) l v (Ok e) l' v'
   filled {e} o =
       let same = listing_rows w n x.listable.blank in
       let a : List ℕ = listing (rows_of w n) in
       let size : e ≡ length a = rw (← same) at o.next ∙ omega arith in
       record {
-        answers = ap Done size;
+        answers = ap Ok size;
         reports = ap listed size;
         list_is = rw (el, ← same) at o.list_is ∙ sets_cleared (length l) a x.list_fits;
         levels_is = rw (ev, ← same, ← levels_rows w n x.listable.blank a) at o.levels_is ∙ sets_cleared (length v) (map (level_in (rows_of w n)) a) (rw (length-map a (level_in (rows_of w n))) x.levels_fit);
@@ -84,24 +87,22 @@ module _ {w : List ℕ} {n : ℕ} {l v : List ℕ} (x : Roomy w n l v) {l₁ v�
 
 -- ---- the tests for room
 
-module _ {w : List ℕ} {n : ℕ} (x : Listable w n) {size : ℕ} (e : size ≡ count (leaf_at w) n) (l v : List ℕ) where
+module _ {w : List ℕ} {n : ℕ} (x : Listable w n) {size : ℕ} (e : size ≡ count_by (leaf_at w) (range_with_len 0 n)) (l v : List ℕ) where
   is_size : length (listing (rows_of w n)) ≡ size
-  is_size = x.size ∙ sym e
+  is_size = x.size ∙ sym (e ∙ count_range (leaf_at w) n)
 
-  refuses : Refuses l v 2 (Refused 2 0) l v
-  refuses = record { answers = refl; reports = refl; list_same = refl; levels_same = refl }
+  refuses : {a : Refusal} → a ≡ refusal_at Room 0 → Refuses l v Room (Err a) l v
+  refuses f = record { answers = ap Err f; reports = ap (λ (z : Refusal). reported (Err z)) f; list_same = refl; levels_same = refl }
 
-  pub list_short : length l < size → OnRoom (rows_of w n) l v (Refused 2 0) l v
-  list_short h = short (inl (omega (arith, is_size, h))) refuses
-
-  pub levels_short : length v < size → OnRoom (rows_of w n) l v (Refused 2 0) l v
-  levels_short h = short (inr (omega (arith, is_size, h))) refuses
+  pub room_short : (length l < size) ⊎ ((size ≤ length l) × (length v < size)) → {a : Refusal} → a ≡ refusal_at Room 0 → OnRoom (rows_of w n) l v (Err a) l v
+  room_short (inl h) f = short (inl (omega (arith, is_size, h))) (refuses f)
+  room_short (inr h) f = short (inr (omega (arith, is_size, h.1))) (refuses f)
 
   module _ (h : size ≤ length l) (k : size ≤ length v) where
     pub room_enough : Roomy w n l v
     room_enough = record { listable = x; list_fits = omega (arith, is_size, h); levels_fit = omega (arith, is_size, k) }
 
-    pub room_filled : {r : Listed} {l' v' : List ℕ} → Accepts (rows_of w n) l v r l' v' → OnRoom (rows_of w n) l v r l' v'
+    pub room_filled : {a : ℕ} {l' v' : List ℕ} → Accepts (rows_of w n) l v (Ok a) l' v' → OnRoom (rows_of w n) l v (Ok a) l' v'
     room_filled a = fits (λ s. elim s [ inl z ↦ omega (arith, room_enough.list_fits) | inr z ↦ omega (arith, room_enough.levels_fit) ]) a
 
-pub ruleset rooming = (list_short, levels_short, room_enough, room_filled)
+pub ruleset rooming = (room_short, room_enough, room_filled)

@@ -13,7 +13,7 @@ use Rattle.sound.specs.Sound.{rows, row_of, Sound}
 use Rattle.sound.proofs.laws.Afresh.{root_depth}
 use Rattle.sound.proofs.laws.Placed.{placed, row_fits}
 use Rattle.closure.proofs.laws.Cutting.{member_at}
-use Rattle.leaves.specs.declared.answer.Listed.TheVariants.{Done}
+use Rattle.std.proofs.Common.{Ok}
 use Rattle.leaves.specs.Level.{LevelAt}
 use Rattle.leaves.specs.Listing.{level_in, listing}
 use Rattle.leaves.specs.Lists.{Accepts, Lists, unsound, sound, short, fits}
@@ -59,14 +59,14 @@ map_at f (x ∷ l) (suc j) h = map_at f l j (omega arith)
 pub padded_at : (n : ℕ) (l : List ℕ) (j : ℕ) → j < length l → get_or (padded n 0 l) j 0 ≡ get_or l j 0
 padded_at n l j h = get_or-append l (replicate (n - length l) 0) 0 j h
 
-module _ {t : Lent} {c : Counts} (s : Sound t c) {list levels : List ℕ} {n : ℕ} {list' levels' : List ℕ} (x : Lists t c list levels (Done n) list' levels') where
+module _ {t : Lent} {c : Counts} (s : Sound t c) {list levels : List ℕ} {n : ℕ} {list' levels' : List ℕ} (x : Lists t c list levels (Ok n) list' levels') where
   abbrev W : List Row
   W = (mesh_of t c).rows
 
-  answered : Accepts W list levels (Done n) list' levels'
+  answered : Accepts W list levels (Ok n) list' levels'
   answered = go x
     where
-      go : Lists t c list levels (Done n) list' levels' → Accepts W list levels (Done n) list' levels'
+      go : Lists t c list levels (Ok n) list' levels' → Accepts W list levels (Ok n) list' levels'
       go (unsound f y) = done_never (sym y.answers)
       go (sound s' (short h y)) = done_never (sym y.answers)
       go (sound s' (fits h y)) = y

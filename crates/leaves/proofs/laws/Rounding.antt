@@ -1,11 +1,10 @@
 -- The level of a depth is rounded up, and is the level of document 000: in any dimension.
-use mathlib.Core.Path.{◌≡◌, sym}
+use mathlib.Core.Path.{◌≡◌}
 use mathlib.Core.Logic.{◌↔◌}
-use Prim.Native.Nat.{ℕ, zero, suc, ◌+◌, ◌-◌, ◌*◌, ◌/◌, ◌≤◌, ◌<◌}
-use native.Mathlib.Nat.{le_refl, mul_comm, mul-suc, mul-zero, div-lt_iff_lt-mul, div-le_self, add-div_right}
+use Prim.Native.Nat.{ℕ, zero, suc, ◌+◌, ◌-◌, ◌*◌, ◌/◌, ◌%◌, ◌≤◌, ◌<◌, min}
+use native.Mathlib.Nat.{le_refl, mul_comm, mul-suc, mul-zero, div-lt_iff_lt-mul}
 use native.Mathlib.Omega.{arith}
-use mir.Syntax.{w32}
-use mir.Val.{Fits}
+use Rattle.std.proofs.lemmas.Grind.{div_ceil_times}
 use Rattle.split.proofs.laws.Tags.{tag_range}
 use Rattle.forest.specs.Element.{Forest, dimension, Element, Shape, depth, shape}
 use Rattle.forest.specs.Invariant as invariant
@@ -29,17 +28,17 @@ module _ {n : ℕ} (some : 1 ≤ n) where
       product : suc k * n ≡ n * k + n
       product = rw (mul_comm (suc k) n) (mul-suc n k)
 
-  -- the code's two cases: it forms one less than the depth, so that no sum can outgrow a u32
-  pub level_none : {d : ℕ} → d ≡ 0 → 0 ≡ level_of n d
-  level_none {d} e = omega (arith, (rounded_up d 0).1 (omega arith))
-
-  pub level_some : {d : ℕ} → (d ≡ 0 → ⊥) → (d - 1) / n + 1 ≡ level_of n d
-  unfolding level_of
-  level_some {d} e = let s : d + (n - 1) ≡ d - 1 + n = omega (arith, some, e) in rw s (sym (add-div_right (d - 1) some))
-
--- and it fits where the depth does
-pub level_fits : (d n : ℕ) → (d ≡ 0 → ⊥) → Fits w32 d → Fits w32 ((d - 1) / n + 1)
-level_fits d n some h = record { fits = omega (arith, h.fits, div-le_self (d - 1) n) }
+  -- what the library's division gives
+  pub level_ceil : (d : ℕ) → d / n + min 1 (d % n) ≡ level_of n d
+  level_ceil d =
+      let up : d ≤ n * level_of n d = (rounded_up d (level_of n d)).0 (le_refl (level_of n d)) in
+      let (least, most) = div_ceil_times d n some in
+      let low : level_of n d ≤ ceil = (rounded_up d ceil).1 (omega (arith, least, mul_comm ceil n)) in
+      let high : ceil ≤ level_of n d = factor_le n ceil (level_of n d) (omega (arith, up, most, mul_comm ceil n)) in
+      omega arith
+    where
+      ceil : ℕ
+      ceil = d / n + min 1 (d % n)
 
 -- forest's level by the depth is this level, one higher
 ceiling_level : {n d : ℕ} → 1 ≤ n → (l : ℕ) → Ceiling n d l → l ≡ suc (level_of n d)

@@ -2,9 +2,6 @@ use borrow.Author.Rules.{rules}
 use Rattle.leaves.proofs.laws.Promise.{wholly}
 use Rattle.leaves.proofs.leaves.Goals as goal
 
-pub returns-then-not-check : goal.returns-then-not-check
-returns-then-not-check c = search (wholly, rules)
-
 pub list_sound-requires : goal.list_sound-requires
 list_sound-requires c = search (wholly, rules)
 

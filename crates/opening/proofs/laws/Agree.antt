@@ -3,35 +3,32 @@ use mathlib.Core.Path.{◌≡◌, refl, sym, ap, ◌∙◌}
 use mathlib.Core.Logic.{inl, inr}
 use mathlib.Core.Bool.{Bool, true, false, not, ◌&&◌, true≢false}
 use mathlib.Core.List.{List}
-use Prim.Native.Nat.{ℕ, zero, suc, ◌+◌, ◌*◌, ◌/◌, ◌≤◌, ◌<◌, zero-le}
-use native.Mathlib.Nat.{eq-or-lt_of_le, le_of_suc-le-suc, le_antisymm}
+use Prim.Native.Nat.{ℕ, zero, suc, ◌+◌, ◌*◌, ◌/◌, ◌≤◌, ◌<◌}
+use native.Mathlib.Nat.{eq-or-lt_of_le, le_of_suc-le-suc}
 use native.Mathlib.Numerals.{add-one}
 use native.Mathlib.Omega.{arith}
-use borrow.Author.Tests.{eqb-true, eq-eqb, le-leb, lt-leb, leb-true, not-true, not-false}
+use borrow.Author.Tests.{eqb-true, eq-eqb, le-leb, leb-true}
 use lib.Dec.{eqb, leb}
 use lib.ListN.{length, replicate, length-replicate}
 use lib.Ieee.{Float}
+use Rattle.std.specs.Prelude.{Ok, Err, is_ok, map}
+use Rattle.std.specs.List.{list_all, range_with_len}
+use Rattle.std.proofs.Math.Bool.{and-true}
+use Rattle.std.proofs.lemmas.List.FromFn.{map-range_with_len_more}
+use Rattle.std.proofs.lemmas.List.Folds.{list_all-append, list_all-map}
 use Rattle.split.specs.Row.{same_row}
 use Rattle.split.proofs.laws.Tests.{fails, holds, both}
 use Rattle.tables.specs.declared.record.Record.{Record}
 use Rattle.tables.specs.Layout.{record_at, row_at, most_rows, most_vertices, point_width}
 use Rattle.intake.specs.Cells.{Cells}
-use Rattle.intake.specs.declared.answer.Verdict.{Verdict}
-use Rattle.intake.specs.declared.answer.Verdict.TheVariants.{Refused, Passed}
-use Rattle.intake.specs.Verdict.{plain}
+use Rattle.intake.specs.Verdict.{Verdict, plain}
 use Rattle.opening.specs.Colours.{colours, largest}
 use Rattle.opening.specs.Order.{root_of}
 use Rattle.opening.specs.Opening.{initial, late}
-use Rattle.opening.specs.Scratch.{links_at, Moderate, Given, Passing, colour_in}
-use Rattle.opening.specs.Agree.{accepts, every, same_record, records_agree, rows_agree, paint, agreed, workable}
+use Rattle.opening.specs.Scratch.{links_at, Moderate, Filled, Passing, colour_in}
+use Rattle.opening.specs.Agree.{every, same_record, records_agree, rows_agree, paint, agreed, workable}
 use Rattle.opening.proofs.laws.Opened.{colours_stored}
-use Rattle.opening.proofs.laws.Indexing.{given_zeros}
-
--- ---- a chain of `&&`
-
-fails_last : (a : Bool) → (a && false) ≡ false
-fails_last true = refl
-fails_last false = refl
+use Rattle.opening.proofs.laws.Indexing.{zeros_filled}
 
 -- ---- two records
 
@@ -48,20 +45,6 @@ same_record_lem a b e = rw (e, eq-eqb b.first _ refl, eq-eqb b.second _ refl)
 -- ---- a test at all places below n
 
 module _ (test : ℕ → Bool) where
-  every_start : every test 0 ≡ true
-  unfolding every
-  every_start = refl
-
-  every_on : (n : ℕ) → every test n ≡ true → test n ≡ true → every test (n + 1) ≡ true
-  unfolding every
-  every_on n p q = rw (add-one, every, p, q)
-
-  -- a loop stopped at place n: later places do not matter
-  every_stop : (n m : ℕ) → test n ≡ false → n < m → every test m ≡ false
-  unfolding every
-  every_stop n zero q h = absurd (omega arith)
-  every_stop n (suc m) q h = elim (eq-or-lt_of_le (le_of_suc-le-suc h)) [ inl e ↦ rw (every, ← e, q, fails_last) | inr l ↦ rw (every, every_stop n m q l) ]
-
   every_all : (n : ℕ) → every test n ≡ true → (k : ℕ) → k < n → test k ≡ true
   unfolding every
   every_all zero e k h = absurd (omega arith)
@@ -74,24 +57,17 @@ module _ (test : ℕ → Bool) where
   all_every zero h = refl
   all_every (suc n) h = rw (every, all_every n (λ k l. h k (omega arith)), h n (omega arith))
 
--- the invariant of a loop that runs the test at all places below n: it held below i
-pub record Agreeing (test : ℕ → Bool) (n i : ℕ) : Type 0 where
-  pub all : every test i ≡ true
-  pub within : i ≤ n
+  -- `all` over the places below n
+  listed_more : (n : ℕ) → list_all (λ b. b) (map test (range_with_len 0 (n + 1))) ≡ list_all (λ b. b) (map test (range_with_len 0 n)) && test n
+  listed_more n = rw (map-range_with_len_more test 0 n n (omega arith), list_all-append, and-true)
 
-pub agreeing_start : {test : ℕ → Bool} {n : ℕ} → Agreeing test n 0
-agreeing_start {test} = record { all = every_start test; within = zero-le }
+  listed : (n : ℕ) → list_all (λ b. b) (map test (range_with_len 0 n)) ≡ every test n
+  unfolding every
+  listed zero = refl
+  listed (suc n) = rw add-one at (listed_more n) ∙ ap (λ b. b && test n) (listed n)
 
--- r is the answer of a call that ran the test at place i
-module _ {test : ℕ → Bool} {n i : ℕ} (s : Agreeing test n i) where
-  pub agreeing_on : {r : Bool} → i < n → r ≡ test i → r ≡ true → Agreeing test n (i + 1)
-  agreeing_on h e q = record { all = every_on test i s.all (sym e ∙ q); within = omega arith }
-
-  pub agreeing_stop : {r : Bool} → i < n → r ≡ test i → r ≡ false → false ≡ every test n
-  agreeing_stop h e q = sym (every_stop test i n (sym e ∙ q) h)
-
-  pub agreeing_end : n ≤ i → true ≡ every test n
-  agreeing_end h = rw (le_antisymm h s.within) (sym s.all)
+  pub every_in : (n : ℕ) {r : Bool} → r ≡ list_all test (range_with_len 0 n) → r ≡ every test n
+  every_in n e = e ∙ sym (list_all-map (λ b. b) test (range_with_len 0 n)) ∙ listed n
 
 -- ---- records
 
@@ -104,29 +80,17 @@ module _ (colour : ℕ → ℕ) (R : List ℕ) (n : ℕ) where
   unfolding records_agree
   same_records r = all_every _ n (λ v h. same_record_lem _ _ (r v h))
 
-accepts_passed : (r : Verdict) → accepts r ≡ true → r ≡ Passed
-accepts_passed (Refused n p) e = absurd (true≢false (sym e))
-accepts_passed Passed e = refl
+ok_passed : (r : Verdict) → is_ok r ≡ true → r ≡ Ok tt
+ok_passed (Err x) e = absurd (true≢false (sym e))
+ok_passed (Ok x) e = refl
+
+-- b is the answer of `is_err`
+pub no_err : {r : Verdict} {b : Bool} → is_ok r ≡ not b → b ≡ false → r ≡ Ok tt
+no_err {r} e f = ok_passed r (e ∙ ap not f)
 
 -- ---- lengths
 
 module _ (coordinates elements memory : ℕ) where
-  pub workable_long : point_width * most_vertices < coordinates → false ≡ workable coordinates elements memory
-  unfolding workable
-  workable_long h = rw (lt-leb coordinates (point_width * most_vertices) h)
-
-  pub workable_none : elements < 1 → false ≡ workable coordinates elements memory
-  unfolding workable
-  workable_none h = rw (lt-leb 1 elements h, fails_last)
-
-  pub workable_many : most_rows < elements → false ≡ workable coordinates elements memory
-  unfolding workable
-  workable_many h = rw (lt-leb elements most_rows h, fails_last, fails_last)
-
-  pub workable_room : {r : Bool} → coordinates ≤ point_width * most_vertices → 1 ≤ elements → elements ≤ most_rows → r ≡ leb (links_at + 4 * elements) memory → r ≡ workable coordinates elements memory
-  unfolding workable
-  workable_room f s g e = rw (le-leb coordinates (point_width * most_vertices) f, le-leb 1 elements s, le-leb elements most_rows g, e)
-
   pub record Workable : Type 0 where
     pub moderate : Moderate coordinates elements
     pub some : 1 ≤ elements
@@ -149,12 +113,12 @@ module _ (coordinates elements memory : ℕ) where
 module _ (F : List Float) (E : Cells) (R W : List ℕ) where
   -- x is the verdict of tests 3 to 8
   module _ {x : Verdict} {table : List ℕ} (s : Passing F E x table) where
-    pub agreed_refused : {n p : ℕ} → x ≡ Refused n p → false ≡ agreed F E R W
+    pub agreed_refused : {b : Bool} → is_ok x ≡ not b → b ≡ true → false ≡ agreed F E R W
     unfolding agreed
-    agreed_refused e = rw (← s.answer, e)
+    agreed_refused e f = rw (← s.answer, e, f)
 
     -- r is the answer on the records: the table has the colours of Algorithm 2
-    module _ (e : x ≡ Passed) {r : Bool} (a : r ≡ records_agree (colour_in table) R (length F / 3)) where
+    module _ (e : x ≡ Ok tt) {r : Bool} (a : r ≡ records_agree (colour_in table) R (length F / 3)) where
       painted : colour_in table ≡ paint F E
       painted = colours_stored (s.painted e)
 
@@ -168,16 +132,16 @@ module _ (F : List Float) (E : Cells) (R W : List ℕ) where
 
   -- what it means that the answer is true
   pub agreed_means : agreed F E R W ≡ true
-      → (plain F E (late E (length F / 3)) ≡ Passed)
+      → (plain F E (late E (length F / 3)) ≡ Ok tt)
       × ((v : ℕ) → v < length F / 3 → record_at R v ≡ initial (paint F E v))
       × ((k : ℕ) → k < E.count → same_row (row_at W k) (root_of (largest (colours E (length F / 3))) (paint F E) E k) ≡ true)
   unfolding agreed rows_agree
   agreed_means e =
       let (a, b) = both _ _ e in
       let (c, d) = both _ _ b in
-      (accepts_passed _ a, records_same (paint F E) R (length F / 3) c, every_all _ E.count d)
+      (ok_passed _ a, records_same (paint F E) R (length F / 3) c, every_all _ E.count d)
 
-  pub means_agreed : plain F E (late E (length F / 3)) ≡ Passed
+  pub means_agreed : plain F E (late E (length F / 3)) ≡ Ok tt
       → ((v : ℕ) → v < length F / 3 → record_at R v ≡ initial (paint F E v))
       → ((k : ℕ) → k < E.count → same_row (row_at W k) (root_of (largest (colours E (length F / 3))) (paint F E) E k) ≡ true)
       → agreed F E R W ≡ true
@@ -190,14 +154,17 @@ module _ (l : List ℕ) {clear : List ℕ} (e : clear ≡ replicate (length l) 0
   as_lent : b ≡ workable coordinates elements (length l)
   as_lent = w ∙ ap (workable coordinates elements) (ap length e ∙ length-replicate (length l) 0)
 
-  pub memory_short : (x : Bool) → not b ≡ true → false ≡ (workable coordinates elements (length l) && x)
-  memory_short x n = fails _ _ (sym as_lent ∙ not-true b n)
+  pub memory_short : (x : Bool) → b ≡ false → false ≡ (workable coordinates elements (length l) && x)
+  memory_short x n = fails _ _ (sym as_lent ∙ n)
 
-  pub memory_given : {E : Cells} → E.count ≡ elements → not b ≡ false → Given coordinates E clear
-  memory_given q n = let m = workable_means coordinates elements (length l) (sym as_lent ∙ not-false b n) in rw e (given_zeros {n = length l} (rw q m.moderate) (rw q m.room))
+  pub memory_moderate : b ≡ true → Moderate coordinates elements
+  memory_moderate n = (workable_means coordinates elements (length l) (sym as_lent ∙ n)).moderate
 
-  pub memory_same : {r x : Bool} → not b ≡ false → r ≡ x → r ≡ (workable coordinates elements (length l) && x)
-  memory_same n q = holds _ _ _ (sym as_lent ∙ not-false b n) q
+  pub memory_empty : (E : Cells) → E.count ≡ elements → b ≡ true → Filled E 0 clear
+  memory_empty E q n = rw e (zeros_filled (length l) E (rw q (workable_means coordinates elements (length l) (sym as_lent ∙ n)).room))
+
+  pub memory_same : {r x : Bool} → b ≡ true → r ≡ x → r ≡ (workable coordinates elements (length l) && x)
+  memory_same n q = holds _ _ _ (sym as_lent ∙ n) q
 
 pub memory_left : (l used : List ℕ) {left : List ℕ} → left ≡ replicate (length used) 0 → length used ≡ length l → left ≡ replicate (length l) 0
 memory_left l used e n = e ∙ ap (λ (k : ℕ). replicate k 0) n

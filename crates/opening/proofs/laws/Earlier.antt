@@ -9,12 +9,11 @@ use Rattle.tables.specs.Layout.{most_rows}
 use Rattle.chain.specs.Chain.{latest}
 use Rattle.chain.proofs.laws.Index.{next_link}
 use Rattle.chain.proofs.laws.Walk.{latest_below}
-use Rattle.intake.specs.Cells.{Cells, four_of}
+use Rattle.intake.specs.Cells.{Cells}
 use Rattle.opening.specs.declared.faces.Seen.{Seen}
 use Rattle.intake.specs.Search.{count}
 use Rattle.intake.specs.Causes.{has}
-use Rattle.opening.specs.Scratch.{links_at, slot, Plain, Filled, one, Different, Few, noted, Counted}
-use Rattle.opening.proofs.laws.Faces.{plain_different}
+use Rattle.opening.specs.Scratch.{links_at, slot, Plain, Filled, one, Few, noted, Counted}
 use Rattle.opening.proofs.laws.Corners.{elements_visits}
 use Rattle.opening.proofs.laws.Walking.{visits_below, Walking, walk_start, walk_key, walk_next, walk_end}
 
@@ -49,15 +48,12 @@ module _ {vertices : ℕ} {E : Cells} {index : List ℕ} (k v : ℕ) (x : Plain 
   total P h w z = walk_end _ _ _ w (omega arith) ∙ elements_visits x P v k (omega arith)
 
   -- from the head, along each link, to the end
-  pub tally_start : {a b c at : ℕ} → v < vertices → at ≡ get_or index v 0 → Tally E k v a b c (record { all = 0; ab = 0; ac = 0; bc = 0 }) at
-  tally_start h e = rw (e, f.index.heads v (omega (arith, x.most))) (record { all = walk_start _ _ _ _; ab = walk_start _ _ _ _; ac = walk_start _ _ _ _; bc = walk_start _ _ _ _ })
+  pub tally_start : {a b c u at : ℕ} → v < vertices → u ≡ v → at ≡ get_or index u 0 → Tally E k v a b c (record { all = 0; ab = 0; ac = 0; bc = 0 }) at
+  tally_start h g e = rw (e, g, f.index.heads v (omega (arith, x.most))) (record { all = walk_start _ _ _ _; ab = walk_start _ _ _ _; ac = walk_start _ _ _ _; bc = walk_start _ _ _ _ })
 
   module _ {a b c at : ℕ} {s : Seen} (t : Tally E k v a b c s at) where
     pub tally_few : k < E.count → Few s
     tally_few h = record { all = few (holds_three E a b c) h t.all; ab = few (holds_two E a b) h t.ab; ac = few (holds_two E a c) h t.ac; bc = few (holds_two E b c) h t.bc }
-
-    pub tally_different : k < E.count → 0 < at → Different (four_of E ((at - 1) / 4))
-    tally_different h l = plain_different ((at - 1) / 4) x (omega (arith, t.all.below))
 
     pub tally_next : {s' : Seen} {to : ℕ} → 0 < at → s' ≡ noted (has E ((at - 1) / 4) a) (has E ((at - 1) / 4) b) (has E ((at - 1) / 4) c) s → to ≡ get_or index (links_at + (at - 1)) 0 → Tally E k v a b c s' to
     unfolding noted
@@ -69,4 +65,4 @@ module _ {vertices : ℕ} {E : Cells} {index : List ℕ} (k v : ℕ) (x : Plain 
     pub tally_end : k < E.count → at ≤ 0 → Counted E k v a b c s
     tally_end h z = record { all = total (holds_three E a b c) h t.all z; ab = total (holds_two E a b) h t.ab z; ac = total (holds_two E a c) h t.ac z; bc = total (holds_two E b c) h t.bc z }
 
-pub ruleset tallying = (tally_start, tally_few, tally_different, tally_next, tally_falls, tally_end)
+pub ruleset tallying = (tally_start, tally_few, tally_next, tally_falls, tally_end)

@@ -1,97 +1,34 @@
 -- What element k holds, and numbers 6 and 7 from what the walks at two of its places counted.
 use mathlib.Core.Path.{◌≡◌, refl, sym, ◌∙◌}
-use mathlib.Core.Bool.{Bool, true, false, ◌&&◌, ◌||◌, or-true, and_comm, and_assoc, true≢false}
+use mathlib.Core.Bool.{Bool, true, false, ◌&&◌, ◌||◌, or-true, or_assoc, and_comm, and_assoc, true≢false}
 use mathlib.Core.Logic.{◌⊎◌, inl, inr}
-use Prim.Native.Nat.{ℕ, zero, suc, ◌+◌, ◌*◌, ◌%◌, ◌≤◌, ◌<◌}
+use Prim.Native.Nat.{ℕ, zero, suc, ◌+◌, ◌%◌, ◌<◌}
 use native.Mathlib.Decide.{ℕ_discrete}
-use native.Mathlib.Nat.{le_trans, mul-le-mul_right}
 use native.Mathlib.Omega.{arith}
-use mir.Syntax.{w32}
-use mir.Val.{Fits}
-use mir.Facts.{Fits-below}
-use borrow.Author.Tests.{eq-eqb, ne_eqb, eqb-true}
+use mir.Val.{bool_byte}
 use lib.Dec.{eqb, ltb, leb}
-use Rattle.tables.specs.Layout.{most_rows}
+use Rattle.tables.specs.Layout.{most_vertices}
 use Rattle.intake.specs.Cells.{Cells, four_of}
 use Rattle.intake.specs.declared.grid.Four.{Four}
 use Rattle.opening.specs.declared.faces.Seen.{Seen}
 use Rattle.opening.specs.declared.faces.Met.{Met}
 use Rattle.intake.specs.Causes.{vertex, has, before, same, third}
-use Rattle.opening.specs.Scratch.{Plain, Chosen, Other, one, Is, Different, among, Held, place_of, turned_of, noted, Counted, crowd, opposite, Around, Meets}
+use Rattle.opening.specs.Sorting.{Low}
+use Rattle.opening.specs.Scratch.{Plain, Chosen, Other, one, among, place_of, turned_of, noted, Counted, crowd, opposite, Around, Meets}
 use Rattle.opening.proofs.laws.Counting.{any_count, count_same}
 
 -- ---- the four vertices of an element
 
-pub is_same : {a b : ℕ} → a ≡ b → Is a b 1
-is_same {a} {b} e = record { is = rw (eq-eqb a b e); small = omega arith }
-
-pub is_other : {a b : ℕ} → (a ≡ b → ⊥) → Is a b 0
-is_other {a} {b} e = record { is = rw (ne_eqb a b e); small = omega arith }
-
--- of four tests that exclude each other the sum says whether one holds
-abbrev Not : Bool → Bool → Type 0
-Not p q = p ≡ true → q ≡ true → ⊥
-
-sum_any : (p q r t : Bool) → Not p q → Not p r → Not p t → Not q r → Not q t → Not r t → one p + one q + one r + one t ≡ one (p || (q || (r || t)))
-sum_any true true r t x y z u v w = absurd (x refl refl)
-sum_any true false true t x y z u v w = absurd (y refl refl)
-sum_any true false false true x y z u v w = absurd (z refl refl)
-sum_any true false false false x y z u v w = refl
-sum_any false true true t x y z u v w = absurd (u refl refl)
-sum_any false true false true x y z u v w = absurd (v refl refl)
-sum_any false true false false x y z u v w = refl
-sum_any false false true true x y z u v w = absurd (w refl refl)
-sum_any false false true false x y z u v w = refl
-sum_any false false false true x y z u v w = refl
-sum_any false false false false x y z u v w = refl
-
-one_small : (b : Bool) → one b ≤ 1
-one_small true = omega arith
-one_small false = omega arith
-
-held_sum : (w : Four) (v : ℕ) {p q r t n : ℕ} → Different w → Is w.a v p → Is w.b v q → Is w.c v r → Is w.d v t → n ≡ p + q + r + t → Held w v n
+pub held : (w : Four) (v : ℕ) → ((eqb w.a v || eqb w.b v) || eqb w.c v) || eqb w.d v ≡ among w v
 unfolding among
-held_sum w v {n = n} d p q r t e = record { is = is; small = rw is (one_small (eqb w.a v || (eqb w.b v || (eqb w.c v || eqb w.d v)))) }
-  where
-    not : (a b : ℕ) → (a ≡ b → ⊥) → Not (eqb a v) (eqb b v)
-    not a b x y z = x (eqb-true a v y ∙ sym (eqb-true b v z))
+held w v = simp or_assoc
 
-    is : n ≡ one (eqb w.a v || (eqb w.b v || (eqb w.c v || eqb w.d v)))
-    is = rw (e, p.is, q.is, r.is, t.is) (sum_any _ _ _ _ (not _ _ d.ab) (not _ _ d.ac) (not _ _ d.ad) (not _ _ d.bc) (not _ _ d.bd) (not _ _ d.cd))
-
-pub summed : (w : Four) (v : ℕ) {p q r t : ℕ} → Different w → Is w.a v p → Is w.b v q → Is w.c v r → Is w.d v t → Held w v (p + q + r + t)
-summed w v d p q r t = held_sum w v d p q r t refl
-
-pub plain_different : {vertices : ℕ} {E : Cells} (k : ℕ) → Plain vertices E → k < E.count → Different (four_of E k)
-unfolding four_of
-plain_different {E = E} k x h = record { ab = not 0 1 (omega arith) (omega arith) (omega arith); ac = not 0 2 (omega arith) (omega arith) (omega arith); ad = not 0 3 (omega arith) (omega arith) (omega arith); bc = not 1 2 (omega arith) (omega arith) (omega arith); bd = not 1 3 (omega arith) (omega arith) (omega arith); cd = not 2 3 (omega arith) (omega arith) (omega arith) }
-  where
-    not : (p q : ℕ) → p < 4 → q < 4 → p < q → vertex E k p ≡ vertex E k q → ⊥
-    not p q l m n e = absurd (omega (arith, x.apart k p q h l m e))
-
-pub read_different : (E : Cells) (k : ℕ) {w : Four} → Different (four_of E k) → w ≡ four_of E k → Different w
-read_different E k d e = rw e d
-
-pub place_first : (w : Four) {q : ℕ} → q ≡ 0 → w.a ≡ place_of w q
+pub place_low : (w : Four) (q : ℕ) {r : ℕ} → Low w → r ≡ place_of w q → r < most_vertices
 unfolding place_of
-place_first w e = rw e
-
-pub place_second : (w : Four) {q : ℕ} → q ≡ 1 → w.b ≡ place_of w q
-unfolding place_of
-place_second w e = rw e
-
-pub place_third : (w : Four) {q : ℕ} → q ≡ 2 → w.c ≡ place_of w q
-unfolding place_of
-place_third w e = rw e
-
-pub place_last : (w : Four) (q : ℕ) → (q ≡ 0 → ⊥) → (q ≡ 1 → ⊥) → (q ≡ 2 → ⊥) → w.d ≡ place_of w q
-unfolding place_of
-place_last w zero x y z = absurd (x refl)
-place_last w (suc zero) x y z = absurd (y refl)
-place_last w (suc (suc zero)) x y z = absurd (z refl)
-place_last w (suc (suc (suc q))) x y z = refl
-
-pub ruleset placing = (place_first, place_second, place_third, place_last)
+place_low w zero l e = rw e l.a
+place_low w (suc zero) l e = rw e l.b
+place_low w (suc (suc zero)) l e = rw e l.c
+place_low w (suc (suc (suc q))) l e = rw e l.d
 
 place_is : (E : Cells) (k q : ℕ) → q < 4 → place_of (four_of E k) q ≡ vertex E k q
 unfolding place_of four_of
@@ -103,10 +40,6 @@ place_is E k (suc (suc (suc (suc q)))) h = absurd (omega arith)
 
 pub place_vertex : (E : Cells) {w : Four} {r v : ℕ} (k q : ℕ) → w ≡ four_of E k → q < 4 → r ≡ place_of w q → v ≡ r → v ≡ vertex E k q
 place_vertex E k q e h g i = i ∙ g ∙ rw e (place_is E k q h)
-
-pub turned_is : (w : Four) (m : ℕ) {a b c d : ℕ} → a ≡ place_of w m → b ≡ place_of w ((m + 1) % 4) → c ≡ place_of w ((m + 2) % 4) → d ≡ place_of w ((m + 3) % 4) → ◌≡◌ {A = Four} (record { a = a; b = b; c = c; d = d }) (turned_of w m)
-unfolding turned_of
-turned_is w m p q r t = rw (p, q, r, t)
 
 -- the order of four tests does not matter: they may begin at any of them
 turned : (a b c d : Bool) → b && (c && (d && a)) ≡ a && (b && (c && d))
@@ -218,11 +151,11 @@ read_turned : {E : Cells} {k m : ℕ} {w t : Four} → w ≡ four_of E k → m <
 unfolding turned_of
 read_turned {E} {k} {m} e h g = rw (g, e) (record { a = place_is E k m h; b = place_is E k ((m + 1) % 4) (omega arith); c = place_is E k ((m + 2) % 4) (omega arith); d = place_is E k ((m + 3) % 4) (omega arith) })
 
-pub turned_there : {vertices v : ℕ} {E : Cells} {w t : Four} (k m : ℕ) → Plain vertices E → k < E.count → w ≡ four_of E k → m < 4 → t ≡ turned_of w m → v ≡ t.a → v < vertices
-turned_there {E = E} k m x h e l g i = let u = read_turned {E = E} {k = k} {m = m} e l g in omega (arith, i, u.a, x.there k m h l)
+pub turned_there : {vertices : ℕ} {E : Cells} {w t : Four} (k m : ℕ) → Plain vertices E → k < E.count → w ≡ four_of E k → m < 4 → t ≡ turned_of w m → t.a < vertices
+turned_there {E = E} k m x h e l g = let u = read_turned {E = E} {k = k} {m = m} e l g in omega (arith, u.a, x.there k m h l)
 
-pub around_turned : (E : Cells) (k m : ℕ) {v : ℕ} {w t : Four} {s : Seen} {r : Bool} → w ≡ four_of E k → m < 4 → t ≡ turned_of w m → v ≡ t.a → Counted E k v t.b t.c t.d s → r ≡ crowd s → Around E k m (record { same = ltb 0 s.all; third = r })
-around_turned E k m e h g i x f = let u = read_turned {E = E} {k = k} {m = m} e h g in around_counted E k h (i ∙ u.a) u.b u.c u.d x f
+pub around_turned : (E : Cells) (k m : ℕ) {w t : Four} {s : Seen} {r : Bool} → w ≡ four_of E k → m < 4 → t ≡ turned_of w m → Counted E k t.a t.b t.c t.d s → r ≡ crowd s → Around E k m (record { same = ltb 0 s.all; third = r })
+around_turned E k m e h g x f = let u = read_turned {E = E} {k = k} {m = m} e h g in around_counted E k h u.a u.b u.c u.d x f
 
 -- a place other than m, chosen in two steps
 pub other_chosen : {m p q : ℕ} → m < 4 → Chosen ((m + 1) % 4) ((m + 2) % 4) p → Chosen p ((m + 3) % 4) q → Other m q
@@ -235,27 +168,12 @@ other_chosen {m} {p} {q} h x y = record { low = y.low; apart = go x.one y.one }
 
 -- ---- one element more
 
--- 0 and 1 as numbers: a product is a conjunction
-ones : (a b : Bool) → one a * one b ≡ one (a && b)
-ones true true = refl
-ones true false = refl
-ones false true = refl
-ones false false = refl
+byte_one : (b : Bool) → bool_byte b ≡ one b
+byte_one true = refl
+byte_one false = refl
 
-pub product_small : (x y : ℕ) → x ≤ 1 → y ≤ 1 → x * y ≤ 1
-product_small x y h l = le_trans (mul-le-mul_right y h) (omega arith)
-
-pub product_fits : (x y : ℕ) → x ≤ 1 → y ≤ 1 → Fits w32 (x * y)
-product_fits x y h l = Fits-below tt (product_small x y h l)
-
-pub sum_fits : (n p : ℕ) → n ≤ 4 * most_rows → p ≤ 1 → Fits w32 (n + p)
-sum_fits n p h l = Fits-below {n = 400001} tt (omega arith)
-
-pub ruleset products = (product_small, product_fits, sum_fits)
-
-pub noted_held : (E : Cells) {w : Four} (j : ℕ) {a b c x y z : ℕ} (s : Seen) → w ≡ four_of E j → Held w a x → Held w b y → Held w c z → ◌≡◌ {A = Seen} (record { all = s.all + x * (y * z); ab = s.ab + x * y; ac = s.ac + x * z; bc = s.bc + y * z }) (noted (has E j a) (has E j b) (has E j c) s)
+-- x, y and z say whether it holds a, b and c
+pub noted_held : (E : Cells) {w : Four} (j a b c : ℕ) {x y z : Bool} {p q r t : ℕ} (s : Seen) → w ≡ four_of E j → x ≡ among w a → y ≡ among w b → z ≡ among w c → p ≡ bool_byte ((x && y) && z) → q ≡ bool_byte (x && y) → r ≡ bool_byte (x && z) → t ≡ bool_byte (y && z)
+    → ◌≡◌ {A = Seen} (record { all = s.all + p; ab = s.ab + q; ac = s.ac + r; bc = s.bc + t }) (noted (has E j a) (has E j b) (has E j c) s)
 unfolding noted has among four_of
-noted_held E {w} j {a} {b} {c} s k e f g = rw (e.is, f.is, g.is) (rw k (go (has E j a) (has E j b) (has E j c)))
-  where
-    go : (p q r : Bool) → ◌≡◌ {A = Seen} (record { all = s.all + one p * (one q * one r); ab = s.ab + one p * one q; ac = s.ac + one p * one r; bc = s.bc + one q * one r }) (record { all = s.all + one (p && (q && r)); ab = s.ab + one (p && q); ac = s.ac + one (p && r); bc = s.bc + one (q && r) })
-    go p q r = rw (ones q r, ones p q, ones p r, ones p (q && r))
+noted_held E j a b c s k e f g ep eq er et = rw (ep, eq, er, et, e, f, g, k) (simp (byte_one, and_assoc))

@@ -1,15 +1,15 @@
 -- The smallest number that is not taken: what it means, that nothing else does, and the same of flags.
 use mathlib.Core.Path.{◌≡◌, refl, sym, ◌∙◌}
-use mathlib.Core.Bool.{Bool, true, false, cond, true≢false}
+use mathlib.Core.Bool.{Bool, true, false, cond, not, true≢false}
 use mathlib.Core.List.{List}
 use Prim.Native.Nat.{ℕ, zero, suc, ◌≤◌, ◌<◌, min}
 use native.Mathlib.Decide.{dec_lt, ℕ_discrete}
 use native.Mathlib.Omega.{arith}
-use borrow.Author.Tests.{lt-ltb, le-ltb, eq-eqb, ne_eqb}
-use lib.Dec.{eqb, ltb}
-use lib.ListN.{get_or}
+use borrow.Author.Tests.{lt-ltb, le-ltb, not-true, not-false}
+use lib.ListN.{length, get_or}
+use Rattle.std.specs.List.{position_or_len}
+use Rattle.std.proofs.lemmas.List.Sums.{prefix_len-le-length, fails_before_first, passes_at_first}
 use Rattle.intake.specs.Search.{free}
-use Rattle.opening.specs.Scratch.{unmarked}
 
 -- what `free` is, in one record, for a proof by induction
 record Free (taken : ℕ → Bool) (n f : ℕ) : Type 0 where
@@ -70,25 +70,6 @@ free_min taken taken' k n same last = free_only taken' k (min k (free taken n)) 
 
 -- ---- the same of flags
 
--- flag c is set
-abbrev pub flagged : List ℕ → ℕ → Bool
-flagged flags c = cond (eqb (get_or flags c 0) 0) false true
-
-pub flagged_set : (flags : List ℕ) (c : ℕ) → (get_or flags c 0 ≡ 0 → ⊥) → flagged flags c ≡ true
-flagged_set flags c d = rw (ne_eqb (get_or flags c 0) 0 d)
-
-pub flagged_clear : (flags : List ℕ) (c : ℕ) → get_or flags c 0 ≡ 0 → flagged flags c ≡ false
-flagged_clear flags c e = rw (eq-eqb (get_or flags c 0) 0 e)
-
-pub unmarked_free : (flags : List ℕ) (n : ℕ) → unmarked flags n ≡ free (flagged flags) n
-unfolding unmarked free
-unmarked_free flags zero = refl
-unmarked_free flags (suc n) = rw (unmarked, free, unmarked_free flags n) (go (eqb (get_or flags n 0) 0))
-  where
-    go : (b : Bool) → cond (ltb (free (flagged flags) n) n) (free (flagged flags) n) (cond b n (suc n)) ≡ cond (ltb (free (flagged flags) n) n) (free (flagged flags) n) (cond (cond b false true) (suc n) n)
-    go true = refl
-    go false = refl
-
--- what a loop over the flags found
-pub unmarked_only : (flags : List ℕ) (n m : ℕ) → m ≤ n → ((c : ℕ) → c < m → get_or flags c 0 ≡ 0 → ⊥) → (m < n → get_or flags m 0 ≡ 0) → unmarked flags n ≡ m
-unmarked_only flags n m h under out = unmarked_free flags n ∙ free_only (flagged flags) n m h (λ c l. flagged_set flags c (under c l)) (λ l. flagged_clear flags m (out l))
+-- a search over the flags finds the smallest colour that is not taken
+pub free_flag : (flags : List Bool) → free (λ c. get_or flags c false) (length flags) ≡ position_or_len not flags
+free_flag flags = free_only (λ c. get_or flags c false) (length flags) (position_or_len not flags) (prefix_len-le-length (λ f. not (not f)) flags) (λ c h. not-false _ (fails_before_first not flags c false h)) (λ h. not-true _ (passes_at_first not flags false h))

@@ -11,7 +11,7 @@ use Rattle.chain.proofs.laws.Pushed.{pushed_length}
 use Rattle.chain.proofs.laws.Index.{indexed_none, indexed_push_one}
 use Rattle.intake.specs.Cells.{Cells}
 use Rattle.intake.specs.Causes.{vertex}
-use Rattle.opening.specs.Scratch.{links_at, paint_length, slot, Plain, Filled, Clear, Moderate, Given}
+use Rattle.opening.specs.Scratch.{links_at, slot, Plain, Filled, Clear}
 
 -- numbers behind the links do not matter to the index
 pub indexed_kept : {key : ℕ → ℕ} {n base : ℕ} {index next : List ℕ} → length next ≡ length index → ((j : ℕ) → j < base + n → get_or next j 0 ≡ get_or index j 0) → Indexed key n base index → Indexed key n base next
@@ -22,24 +22,15 @@ indexed_kept {base = base} l same x = record { room = rw l x.room; heads = λ v 
 pub zeros_count : (n : ℕ) → n ≡ length (replicate {A = ℕ} n 0)
 zeros_count n = sym (length-replicate n 0)
 
-pub zeros_clear : (n : ℕ) → n ≡ paint_length → Clear (replicate n 0)
-zeros_clear n e = record { size = length-replicate n 0 ∙ e; zeros = zeros_at n }
+pub zeros_clear : (n : ℕ) → Clear (replicate n 0)
+zeros_clear n = record { zeros = zeros_at n }
 
-zeros_filled : (n : ℕ) (E : Cells) → links_at + 4 * E.count ≤ n → Filled E 0 (replicate n 0)
+pub zeros_filled : (n : ℕ) (E : Cells) → links_at + 4 * E.count ≤ n → Filled E 0 (replicate n 0)
 zeros_filled n E h =
     record {
       room = rw length-replicate h;
       index = indexed_none (slot E) links_at (replicate n 0) (rw length-replicate (omega arith)) (λ v l. zeros_at n v);
     }
-
-pub given_zeros : {coordinates n : ℕ} {E : Cells} → Moderate coordinates E.count → links_at + 4 * E.count ≤ n → Given coordinates E (replicate n 0)
-given_zeros {n = n} {E} m h = record { moderate = m; empty = zeros_filled n E h }
-
-pub given_small : {coordinates : ℕ} {E : Cells} → Moderate coordinates E.count → E.count ≤ 10000 → Given coordinates E (replicate 60000 0)
-given_small m h = given_zeros {n = 60000} m (omega arith)
-
-pub given_large : {coordinates : ℕ} {E : Cells} → Moderate coordinates E.count → Given coordinates E (replicate 420000 0)
-given_large m = given_zeros {n = 420000} m (omega (arith, m.few_elements))
 
 -- ---- one corner slot more
 

@@ -11,8 +11,8 @@ use Rattle.intake.specs.Cells.{Cells, quads}
 use Rattle.tables.specs.Report.{done}
 use Rattle.opening.specs.Colours.{colours, largest}
 use Rattle.opening.specs.Order.{root_of}
-use Rattle.intake.specs.declared.answer.Verdict.TheVariants as verdict
-use Rattle.opening.specs.declared.answer.Opened.TheVariants as opened
+use Rattle.std.specs.Prelude.{Ok, Err}
+use Rattle.tables.specs.declared.refusal.Refusal.{Refusal}
 use Rattle.opening.specs.Opening.{initial, opened_mesh, verdict_on, lent, Opens}
 use Rattle.opening.specs.Scratch.{Painted, colour_in}
 
@@ -42,10 +42,10 @@ opened_laid {F} {E} {paint} {N} {lp} {lv} {lr} p n s = λ i. record { points = s
 
 -- ---- the promise of opening, from the verdict
 
-pub opens_refused : {F points points' : List Float} {E records records' rows rows' : List ℕ} {n p : ℕ} → verdict_on F E (lent points records rows) ≡ verdict.Refused n p
-    → points' ≡ points → records' ≡ records → rows' ≡ rows → Opens F E (lent points records rows) (opened.Refused n p) (lent points' records' rows')
+pub opens_refused : {F points points' : List Float} {E records records' rows rows' : List ℕ} {x : Refusal} → verdict_on F E (lent points records rows) ≡ Err x
+    → points' ≡ points → records' ≡ records → rows' ≡ rows → Opens F E (lent points records rows) (Err x) (lent points' records' rows')
 opens_refused e a b c = record { answers = rw e; reports = rw e; leaves = rw e (λ i. lent (a i) (b i) (c i)) }
 
-pub opens_passed : {F : List Float} {E : List ℕ} {t t' : Lent} {c : Counts} → verdict_on F E t ≡ verdict.Passed → c ≡ started (length F / 3) (length E / 4)
-    → t' ≡ laid (opened_mesh F (quads E)) (length t.points) (length t.records) (length t.rows) → Opens F E t (opened.Done c) t'
-opens_passed e k l = record { answers = rw e (ap opened.Done k); reports = rw e (ap (λ (d : Counts). done d 0) k); leaves = rw e l }
+pub opens_passed : {F : List Float} {E : List ℕ} {t t' : Lent} {c : Counts} → verdict_on F E t ≡ Ok tt → c ≡ started (length F / 3) (length E / 4)
+    → t' ≡ laid (opened_mesh F (quads E)) (length t.points) (length t.records) (length t.rows) → Opens F E t (Ok c) t'
+opens_passed e k l = record { answers = rw e (ap Ok k); reports = rw e (ap (λ (d : Counts). done d 0) k); leaves = rw e l }

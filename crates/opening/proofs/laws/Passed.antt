@@ -9,7 +9,7 @@ use borrow.Author.Tests.{ltb-false, leb-true, leb-false, le-leb, eqb-true, eqb-f
 use Rattle.split.specs.Magnitude.{Bounded}
 use Rattle.tables.specs.Layout.{room_of, most_rows, most_vertices, point_width}
 use Rattle.intake.specs.Cells.{Cells}
-use Rattle.intake.specs.declared.answer.Found.TheVariants.{Nowhere}
+use Rattle.std.specs.Prelude.{None}
 use Rattle.intake.specs.Search.{first}
 use Rattle.intake.specs.Causes.{wrong_input, has_no_room, usable, vertex, missing, twice, double}
 use Rattle.opening.specs.Scratch.{Plain, Roomy}
@@ -118,10 +118,10 @@ none_twice f h p q P Q =
     p P
 
 -- what tests 4 and 5 say of all elements, however many there are
-pub there_passed : (vertices : ℕ) (E : Cells) → first (missing vertices E) E.count ≡ Nowhere → (k q : ℕ) → k < E.count → q < 4 → vertex E k q < vertices
+pub there_passed : (vertices : ℕ) (E : Cells) → first (missing vertices E) E.count ≡ None → (k q : ℕ) → k < E.count → q < 4 → vertex E k q < vertices
 there_passed vertices E m k q h = none_missing vertices E k (first_none (missing vertices E) E.count m k h) q
 
-pub apart_passed : (E : Cells) → first (double E) E.count ≡ Nowhere → (k p q : ℕ) → k < E.count → p < 4 → q < 4 → vertex E k p ≡ vertex E k q → p ≡ q
+pub apart_passed : (E : Cells) → first (double E) E.count ≡ None → (k p q : ℕ) → k < E.count → p < 4 → q < 4 → vertex E k p ≡ vertex E k q → p ≡ q
 apart_passed E d k p q h = none_twice (vertex E k) (first_none (double E) E.count d k h) p q
 
 -- elements of which there are few enough, and few enough vertices
@@ -129,8 +129,8 @@ pub plain_cells :
     (vertices : ℕ) (E : Cells) →
     E.count ≤ most_rows →
     vertices ≤ most_vertices →
-    first (missing vertices E) E.count ≡ Nowhere →
-    first (double E) E.count ≡ Nowhere →
+    first (missing vertices E) E.count ≡ None →
+    first (double E) E.count ≡ None →
     Plain vertices E
 plain_cells vertices E f v m d = record {
   few = f;

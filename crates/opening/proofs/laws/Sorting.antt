@@ -3,12 +3,12 @@ use mathlib.Core.Path.{◌≡◌, refl, ap, ◌∙◌}
 use mathlib.Core.Bool.{Bool, true, false, cond}
 use Prim.Native.Nat.{ℕ, ◌≤◌, ◌<◌}
 use native.Mathlib.Omega.{arith}
-use borrow.Author.Tests.{ltb-true, ltb-false, lt-ltb, le-ltb, eq-eqb, ne_eqb}
+use borrow.Author.Tests.{ltb-true, ltb-false}
 use lib.Dec.{ltb}
 use Rattle.tables.specs.Layout.{most_vertices}
-use Rattle.split.specs.Split.{three, number, Corners, corners}
+use Rattle.split.specs.Split.{three, number, corners}
 use Rattle.split.specs.Row.{root}
-use Rattle.forest.specs.Start.{arranged, moved}
+use Rattle.forest.specs.Start.{arranged}
 use Rattle.intake.specs.Cells.{Cells, four_of}
 use Rattle.opening.specs.declared.order.Two.{Two}
 use Rattle.intake.specs.declared.grid.Four.{Four}
@@ -27,12 +27,6 @@ module _ (f : ℕ → ℕ) (a b : ℕ) where
       go : (t : Bool) → ltb (f b) (f a) ≡ t → P (cond t b a) (cond t a b)
       go true e = swapped (ltb-true (f b) (f a) e)
       go false e = kept (ltb-false (f b) (f a) e)
-
-  pub in_order_swapped : f b < f a → two b a ≡ in_order f a b
-  in_order_swapped h = rw (lt-ltb (f b) (f a) h)
-
-  pub in_order_kept : f a ≤ f b → two a b ≡ in_order f a b
-  in_order_kept h = rw (le-ltb (f b) (f a) h)
 
 -- two vertices that have colours
 pub record Known (r : Two) : Type 0 where
@@ -60,16 +54,6 @@ module _ (f : ℕ → ℕ) where
   pub sorted_is : (w : Four) (p q r s t : Two) → p ≡ in_order f w.a w.b → q ≡ in_order f w.c w.d → r ≡ in_order f p.low q.low → s ≡ in_order f p.high q.high → t ≡ in_order f s.low r.high → corners r.low t.low t.high s.high ≡ sorted f (four w)
   unfolding sorted
   sorted_is w p q r s t ep eq er es et = rw (et, es, er, ep, eq)
-
--- the last vertex is moved to the front exactly if its colour is N
-module _ (N : ℕ) (f : ℕ → ℕ) (w : Corners ℕ) where
-  pub arranged_moved : f w.v3 ≡ N → moved three w ≡ arranged three N f w
-  unfolding arranged
-  arranged_moved e = rw (eq-eqb (f w.v3) N e)
-
-  pub arranged_kept : (f w.v3 ≡ N → ⊥) → w ≡ arranged three N f w
-  unfolding arranged
-  arranged_kept e = rw (ne_eqb (f w.v3) N e)
 
 -- an element as it is read
 module _ (E : Cells) (k : ℕ) {w : Four} (e : w ≡ four_of E k) where

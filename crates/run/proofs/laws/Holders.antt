@@ -1,4 +1,5 @@
 -- The patch of an edge: which rows are in it, that each stands once, and when none has another edge.
+use Rattle.std.proofs.Common.{None, Some}
 use mathlib.Core.Path.{◌≡◌, refl, sym, ap, ◌∙◌}
 use mathlib.Core.Bool.{Bool, true, false, ◌&&◌, ◌||◌, cond, or-true}
 use mathlib.Core.List.Memᴰ
@@ -14,7 +15,6 @@ use Rattle.split.specs.declared.row.Row.{Row}
 use Rattle.split.specs.declared.row.Ends.{Ends}
 use Rattle.split.specs.Split.{Corners, at, Holds}
 use Rattle.split.specs.Row.{corners_of, edge_of}
-use Rattle.intake.specs.declared.answer.Found.TheVariants.{At, Nowhere}
 use Rattle.sound.proofs.laws.Searches.{and_both}
 use Rattle.run.specs.Skeleton.{row_in}
 use Rattle.run.specs.Run.{has, holding, holders_from, holders, same_ends, other_in}
@@ -152,25 +152,25 @@ ends_same e = rw (eq-eqb e.small e.small refl, eq-eqb e.large e.large refl)
 
 module _ (W : List Row) (e : Ends) where
   -- where no leaf blocks, all have the edge e
-  pub clear_edges : (ss : List ℕ) → other_in W e ss ≡ Nowhere → (q : ℕ) → Memᴰ q ss → edge_of (row_in W q) ≡ e
+  pub clear_edges : (ss : List ℕ) → other_in W e ss ≡ None → (q : ℕ) → Memᴰ q ss → edge_of (row_in W q) ≡ e
   unfolding other_in
   clear_edges [] h q k = absurd (Memᴰ.not-nil k)
   clear_edges (s ∷ ss) h q k = go (same_ends (edge_of (row_in W s)) e) refl h (clear_edges ss)
     where
-      go : (b : Bool) → same_ends (edge_of (row_in W s)) e ≡ b → cond b (other_in W e ss) (At s) ≡ Nowhere → (other_in W e ss ≡ Nowhere → (q : ℕ) → Memᴰ q ss → edge_of (row_in W q) ≡ e) → edge_of (row_in W q) ≡ e
+      go : (b : Bool) → same_ends (edge_of (row_in W s)) e ≡ b → cond b (other_in W e ss) (Some s) ≡ None → (other_in W e ss ≡ None → (q : ℕ) → Memᴰ q ss → edge_of (row_in W q) ≡ e) → edge_of (row_in W q) ≡ e
       go true x y deeper = elim (Memᴰ.cases_cons k) [ inl z ↦ rw z (same_ends_lem _ e x) | inr j ↦ deeper y q j ]
       go false x y deeper = let z : ◌≡◌ {A = ℕ} 0 1 = cc in absurd (omega arith)
 
   -- the leaf that blocks is one of them, and has another edge
-  pub other_listed : (ss : List ℕ) (b : ℕ) → other_in W e ss ≡ At b → Memᴰ b ss × (edge_of (row_in W b) ≡ e → ⊥)
+  pub other_listed : (ss : List ℕ) (b : ℕ) → other_in W e ss ≡ Some b → Memᴰ b ss × (edge_of (row_in W b) ≡ e → ⊥)
   unfolding other_in
   other_listed [] b h = let z : ◌≡◌ {A = ℕ} 0 1 = cc in absurd (omega arith)
   other_listed (s ∷ ss) b h = go (same_ends (edge_of (row_in W s)) e) refl h (other_listed ss b)
     where
-      at_is : (p q : ℕ) → At p ≡ At q → p ≡ q
+      at_is : (p q : ℕ) → Some p ≡ Some q → p ≡ q
       at_is p q x = cc
 
-      go : (a : Bool) → same_ends (edge_of (row_in W s)) e ≡ a → cond a (other_in W e ss) (At s) ≡ At b → (other_in W e ss ≡ At b → Memᴰ b ss × (edge_of (row_in W b) ≡ e → ⊥)) → Memᴰ b (s ∷ ss) × (edge_of (row_in W b) ≡ e → ⊥)
+      go : (a : Bool) → same_ends (edge_of (row_in W s)) e ≡ a → cond a (other_in W e ss) (Some s) ≡ Some b → (other_in W e ss ≡ Some b → Memᴰ b ss × (edge_of (row_in W b) ≡ e → ⊥)) → Memᴰ b (s ∷ ss) × (edge_of (row_in W b) ≡ e → ⊥)
       go true x y deeper = let (k, d) = deeper y in (Memᴰ.tail k, d)
       go false x y deeper =
           let q = at_is s b y in

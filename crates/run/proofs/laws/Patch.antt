@@ -1,4 +1,5 @@
 -- The split of a patch that no leaf blocks: sound tables stay so, and exactly the leaves of the patch are split.
+use Rattle.std.proofs.Common.{None}
 use mathlib.Core.Path.{◌≡◌, refl, sym, ap, subst, ◌∙◌}
 use mathlib.Core.List.Memᴰ
 use mathlib.Core.List.{List, [], ◌∷◌, ◌++◌, Memᴰ}
@@ -15,7 +16,6 @@ use Rattle.split.proofs.laws.Tags.{tag_range}
 use Rattle.split.proofs.laws.Children.{not_both, from_parent}
 use Rattle.split.proofs.laws.Rows.{vertices_step}
 use Rattle.tables.specs.Mesh.{Mesh}
-use Rattle.intake.specs.declared.answer.Found.TheVariants.{Nowhere}
 use Rattle.sound.specs.Sound.{vertices, rows, record_of, row_of, Records, Grown}
 use Rattle.sound.proofs.laws.Leaves.{leaf_whole}
 use Rattle.sound.proofs.laws.Placed.{placed, row_distinct}
@@ -79,7 +79,7 @@ module _ {P : List Point} {i t : ℕ} {S : Skeleton} (y : Ready P i t S) (few : 
 
   -- ---- the whole patch of a leaf that no leaf blocks
 
-  module _ (r : ℕ) (there : r < length S.rows) (leaf : (row_in S.rows r).child ≡ 0) (shallow : (row_in S.rows r).depth < 60) (clear : blocking S.rows r ≡ Nowhere) where
+  module _ (r : ℕ) (there : r < length S.rows) (leaf : (row_in S.rows r).child ≡ 0) (shallow : (row_in S.rows r).depth < 60) (clear : blocking S.rows r ≡ None) where
     abbrev pub e : Ends
     e = edge_of (row_in S.rows r)
 

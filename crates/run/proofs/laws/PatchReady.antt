@@ -1,4 +1,5 @@
 -- After the split of a patch that no leaf blocks the mesh is ready for the next.
+use Rattle.std.proofs.Common.{None}
 use mathlib.Core.Path.{◌≡◌, refl, ap, ◌∙◌}
 use mathlib.Core.List.{List, [], ◌∷◌, ◌++◌}
 use mathlib.Core.Logic.{◌⊎◌, inl, inr}
@@ -12,7 +13,6 @@ use Rattle.split.specs.Row.{corners_of}
 use Rattle.split.proofs.laws.Places.{le_or_lt}
 use Rattle.tables.specs.Layout.{no_record}
 use Rattle.tables.specs.Mesh.{Mesh}
-use Rattle.intake.specs.declared.answer.Found.TheVariants.{Nowhere}
 use Rattle.sound.specs.Sound.{vertices, record_of, row_of, Conforming}
 use Rattle.run.specs.Skeleton.{Skeleton, row_in}
 use Rattle.run.specs.Ready.{Ready}
@@ -21,7 +21,7 @@ use Rattle.run.proofs.laws.Listed.{append_first}
 use Rattle.run.proofs.laws.Patched.{Remains, Born}
 use Rattle.run.proofs.laws.Patch.{m, n, e, hs, patched_wide, patch_is, patch_patched, patch_records, old_apart, new_apart}
 
-module _ {P : List Point} {i t : ℕ} {S : Skeleton} (y : Ready P i t S) (few : length S.records + 1 < 4294967295) (r : ℕ) (there : r < length S.rows) (leaf : (row_in S.rows r).child ≡ 0) (shallow : (row_in S.rows r).depth < 60) (clear : blocking S.rows r ≡ Nowhere) where
+module _ {P : List Point} {i t : ℕ} {S : Skeleton} (y : Ready P i t S) (few : length S.records + 1 < 4294967295) (r : ℕ) (there : r < length S.rows) (leaf : (row_in S.rows r).child ≡ 0) (shallow : (row_in S.rows r).depth < 60) (clear : blocking S.rows r ≡ None) where
   abbrev M : Mesh
   M = m y few
 

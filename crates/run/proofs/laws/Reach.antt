@@ -1,4 +1,5 @@
 -- What refining leaves one after the other leads to, and that the edge of the leaf that blocks comes first.
+use Rattle.std.proofs.Common.{Some}
 use mathlib.Core.Path.{◌≡◌, refl, sym, subst, ◌∙◌}
 use mathlib.Core.Bool.{Bool, true, false}
 use mathlib.Core.List.{List, []}
@@ -12,7 +13,6 @@ use Rattle.split.specs.declared.point.Point.{Point}
 use Rattle.split.proofs.laws.Places.{le_or_lt}
 use Rattle.tables.specs.Layout.{no_record}
 use Rattle.forest.specs.Element.{Element}
-use Rattle.intake.specs.declared.answer.Found.TheVariants.{At}
 use Rattle.intake.specs.Search.{count}
 use Rattle.sound.specs.Forest.{largest_in, element_within}
 use Rattle.run.specs.Skeleton.{Skeleton, row_in, meshed}
@@ -87,11 +87,11 @@ module _ {P : List Point} {i t : ℕ} {S : Skeleton} (y : Ready P i t S) where
   rank_in_lem r = rw (initials_are, roots_are) (rank_pointless P S i t r)
 
   -- the leaf that blocks has the smaller rank
-  pub block_less : (r b : ℕ) → Open S r → blocking S.rows r ≡ At b → rank_in S b < rank_in S r
+  pub block_less : (r b : ℕ) → Open S r → blocking S.rows r ≡ Some b → rank_in S b < rank_in S r
   block_less r b o k = rw (rank_in_lem r, rank_in_lem b) (block_falls y r b o k)
 
   -- the leaf waits while the one that blocks it is refined
-  pub waits : {T : Skeleton} (r b : ℕ) → Open S r → blocking S.rows r ≡ At b → Run S b T → length T.records < 4294967295 → Open T r
+  pub waits : {T : Skeleton} (r b : ℕ) → Open S r → blocking S.rows r ≡ Some b → Run S b T → length T.records < 4294967295 → Open T r
   waits r b o k p few = still_open any y r b o k (run_grows p y few (block_open y r b o k))
 
 -- the rank stays

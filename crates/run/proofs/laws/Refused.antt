@@ -1,4 +1,5 @@
 -- A call that comes to a patch without room needs more than there is (demand 3).
+use Rattle.std.proofs.Common.{None, Some}
 use mathlib.Core.Path.{◌≡◌, refl}
 use mathlib.Core.List.{List, [], ◌∷◌, Memᴰ}
 use Prim.Native.Nat.{ℕ, ◌+◌, ◌≤◌}
@@ -11,7 +12,6 @@ use Rattle.tables.specs.declared.layout.Size.{Size}
 use Rattle.forest.specs.Element.{Element}
 use Rattle.forest.specs.Closed.{Closed}
 use Rattle.forest.proofs.Forced.{forced_closed}
-use Rattle.intake.specs.declared.answer.Found.TheVariants.{At, Nowhere}
 use Rattle.sound.specs.Forest.{forest_of, element_of}
 use Rattle.run.specs.Ready.{Ready, Open}
 use Rattle.run.specs.Skeleton.{Skeleton, row_in, meshed}
@@ -44,17 +44,17 @@ module _ (P : List Point) (i t : ℕ) (Z : Element → Type 0) (room : Size) (sm
   record Leads (S : Skeleton) (r : ℕ) : Type 0 where
     from : Ready P i t S → Within room S → Open S r → Closed (forest_of (meshed P S) t) Z → Inside (meshed P S) t Z → Z (element_of (meshed P S) t r) → Overrun P i t Z room S
 
-  full_leads : {S : Skeleton} {r : ℕ} → blocking S.rows r ≡ Nowhere → Over room (split_patch S r) → Leads S r
+  full_leads : {S : Skeleton} {r : ℕ} → blocking S.rows r ≡ None → Over room (split_patch S r) → Leads S r
   full_leads {S} {r} k v = record {
     from = λ y f o c d z.
         let w = run_refined P i t Z (clear k refl) y (omega (arith, f.vertices, small, patch_length S r)) o c d z in
         record { mesh = split_patch S r; ready = w.ready; grows = w.grows; inside = w.inside; over = v };
   }
 
-  below_leads : {S : Skeleton} {r b : ℕ} → blocking S.rows r ≡ At b → Leads S b → Leads S r
+  below_leads : {S : Skeleton} {r b : ℕ} → blocking S.rows r ≡ Some b → Leads S b → Leads S r
   below_leads {S} {r} {b} k g = record { from = λ y f o c d z. g.from y f (block_open y r b o k) c d (block_forced Z y c d r b o k z) }
 
-  after_leads : {S T : Skeleton} {r b : ℕ} → blocking S.rows r ≡ At b → Run S b T → Within room T → Leads T r → Leads S r
+  after_leads : {S T : Skeleton} {r b : ℕ} → blocking S.rows r ≡ Some b → Run S b T → Within room T → Leads T r → Leads S r
   after_leads {S} {T} {r} {b} k p v g = record {
     from = λ y f o c d z.
         let u = run_refined P i t Z p y (omega (arith, v.vertices, small)) (block_open y r b o k) c d (block_forced Z y c d r b o k z) in

@@ -1,4 +1,5 @@
 -- What refining one leaf does: sound tables stay so, the leaf is split, everything split lies in every closed set that holds what was split before and the leaf, and no edge of a later generation is halved.
+use Rattle.std.proofs.Common.{None, Some}
 use mathlib.Core.Path.{◌≡◌, sym, ap, subst, ◌∙◌}
 use mathlib.Core.List.{List, [], ◌∷◌, Memᴰ}
 use mathlib.Core.Logic.{◌⊎◌, inl, inr}
@@ -12,7 +13,6 @@ use Rattle.split.specs.Row.{edge_of}
 use Rattle.tables.specs.Mesh.{Mesh}
 use Rattle.forest.specs.Element.{Element}
 use Rattle.forest.specs.Closed.{Closed}
-use Rattle.intake.specs.declared.answer.Found.TheVariants.{At, Nowhere}
 use Rattle.sound.specs.Sound.{rows}
 use Rattle.sound.specs.Forest.{forest_of, element_of}
 use Rattle.run.specs.Skeleton.{Skeleton, row_in, meshed}
@@ -48,13 +48,13 @@ both_of W r q k = let h = holders_only W (edge_of (row_in W r)) q k in (h.there,
 
 -- ---- the leaf that blocks
 
-block_listed : (W : List Row) (r b : ℕ) → blocking W r ≡ At b → Memᴰ b (holders W (edge_of (row_in W r))) × (edge_of (row_in W b) ≡ edge_of (row_in W r) → ⊥)
+block_listed : (W : List Row) (r b : ℕ) → blocking W r ≡ Some b → Memᴰ b (holders W (edge_of (row_in W r))) × (edge_of (row_in W b) ≡ edge_of (row_in W r) → ⊥)
 block_listed W r b k = other_listed W (edge_of (row_in W r)) (holders W (edge_of (row_in W r))) b k
 
-block_both : (W : List Row) (r b : ℕ) → blocking W r ≡ At b → Both (row_in W b) (edge_of (row_in W r))
+block_both : (W : List Row) (r b : ℕ) → blocking W r ≡ Some b → Both (row_in W b) (edge_of (row_in W r))
 block_both W r b k = (both_of W r b (block_listed W r b k).0).1
 
-module _ {P : List Point} {i t : ℕ} {S : Skeleton} (y : Ready P i t S) (r b : ℕ) (o : Open S r) (k : blocking S.rows r ≡ At b) where
+module _ {P : List Point} {i t : ℕ} {S : Skeleton} (y : Ready P i t S) (r b : ℕ) (o : Open S r) (k : blocking S.rows r ≡ Some b) where
   pub block_open : Open S b
   block_open =
       let h = holders_only S.rows (edge_of (row_in S.rows r)) b (block_listed S.rows r b k).0 in
@@ -65,11 +65,11 @@ module _ {P : List Point} {i t : ℕ} {S : Skeleton} (y : Ready P i t S) (r b : 
 
 module _ {P : List Point} {i t : ℕ} (Z : Element → Type 0) where
   -- the leaf that blocks is forced
-  pub block_forced : {S : Skeleton} → Ready P i t S → Closed (forest_of (meshed P S) t) Z → Inside (meshed P S) t Z → (r b : ℕ) → Open S r → blocking S.rows r ≡ At b → Z (element_of (meshed P S) t r) → Z (element_of (meshed P S) t b)
+  pub block_forced : {S : Skeleton} → Ready P i t S → Closed (forest_of (meshed P S) t) Z → Inside (meshed P S) t Z → (r b : ℕ) → Open S r → blocking S.rows r ≡ Some b → Z (element_of (meshed P S) t r) → Z (element_of (meshed P S) t b)
   block_forced {S} y c d r b o k z = held_forced Z y.grown c d b r (block_open y r b o k).there o.there (block_both S.rows r b k) z
 
   -- the leaf waits while the one that blocks it is refined
-  pub still_open : {S T : Skeleton} → Ready P i t S → (r b : ℕ) → Open S r → blocking S.rows r ≡ At b → Refined P i t S T b Z → Open T r
+  pub still_open : {S T : Skeleton} → Ready P i t S → (r b : ℕ) → Open S r → blocking S.rows r ≡ Some b → Refined P i t S T b Z → Open T r
   still_open {S} {T} y r b o k w =
       let same = w.grows.row r o.there in
       let there : r < length T.rows = omega (arith, o.there, w.grows.more_rows) in
@@ -86,7 +86,7 @@ module _ {P : List Point} {i t : ℕ} (Z : Element → Type 0) where
       }
 
   clear_refined : {S : Skeleton} {r : ℕ} → Ready P i t S → length S.records + 1 < 4294967295 → Open S r → Closed (forest_of (meshed P S) t) Z → Inside (meshed P S) t Z → Z (element_of (meshed P S) t r)
-      → blocking S.rows r ≡ Nowhere → Refined P i t S (split_patch S r) r Z
+      → blocking S.rows r ≡ None → Refined P i t S (split_patch S r) r Z
   clear_refined {S} {r} y few o c d z k = record {
     ready = patch_ready y few r o.there o.leaf o.shallow k;
     grows = p.grows;
@@ -107,7 +107,7 @@ module _ {P : List Point} {i t : ℕ} (Z : Element → Type 0) where
       late : (q : ℕ) → Memᴰ q (holders S.rows (edge_of (row_in S.rows r))) → edge_rank (meshed P (split_patch S r)) i t q ≤ edge_rank (meshed P S) i t r
       late q j = let (h, both) = both_of S.rows r q j in omega (arith, rank_kept p.grows q h, edge_most y.grown q r h o.there both)
 
-  blocked_refined : {S T S' : Skeleton} {r b : ℕ} → Ready P i t S → Open S r → blocking S.rows r ≡ At b → Refined P i t S T b Z → Refined P i t T S' r Z → Refined P i t S S' r Z
+  blocked_refined : {S T S' : Skeleton} {r b : ℕ} → Ready P i t S → Open S r → blocking S.rows r ≡ Some b → Refined P i t S T b Z → Refined P i t T S' r Z → Refined P i t S S' r Z
   blocked_refined {S} {T} {S'} {r} {b} y o k u w = record {
     ready = w.ready;
     grows = grows_on u.grows w.grows;
@@ -124,10 +124,10 @@ module _ (P : List Point) (i t : ℕ) (Z : Element → Type 0) where
   record Leads (S : Skeleton) (r : ℕ) (S' : Skeleton) : Type 0 where
     from : Ready P i t S → length S'.records < 4294967295 → Open S r → Closed (forest_of (meshed P S) t) Z → Inside (meshed P S) t Z → Z (element_of (meshed P S) t r) → Refined P i t S S' r Z
 
-  clear_leads : {S S' : Skeleton} {r : ℕ} → blocking S.rows r ≡ Nowhere → S' ≡ split_patch S r → Leads S r S'
+  clear_leads : {S S' : Skeleton} {r : ℕ} → blocking S.rows r ≡ None → S' ≡ split_patch S r → Leads S r S'
   clear_leads {S} {S'} {r} k e = record { from = λ y few o c d z. subst (λ (x : Skeleton). Refined P i t S x r Z) (sym e) (clear_refined Z y (omega (arith, few, run_records (clear k e))) o c d z k) }
 
-  blocked_leads : {S T S' : Skeleton} {r b : ℕ} → blocking S.rows r ≡ At b → Run T r S' → Leads S b T → Leads T r S' → Leads S r S'
+  blocked_leads : {S T S' : Skeleton} {r b : ℕ} → blocking S.rows r ≡ Some b → Run T r S' → Leads S b T → Leads T r S' → Leads S r S'
   blocked_leads {S} {T} {S'} {r} {b} k q f g = record {
     from = λ y few o c d z.
         let u = f.from y (omega (arith, few, run_records q)) (block_open y r b o k) c d (block_forced Z y c d r b o k z) in

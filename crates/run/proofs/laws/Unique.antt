@@ -1,8 +1,8 @@
 -- A run has one result (01, "Closure": the order is fixed).
+use Rattle.std.proofs.Common.{None, Some}
 use mathlib.Core.Path.{◌≡◌, sym, subst, ◌∙◌}
 use mathlib.Core.List.{List, [], ◌∷◌}
 use Prim.Native.Nat.{ℕ}
-use Rattle.intake.specs.declared.answer.Found.TheVariants.{At, Nowhere}
 use Rattle.intake.proofs.laws.First.{found_never, found_one}
 use Rattle.run.specs.Skeleton.{Skeleton, row_in}
 use Rattle.run.specs.Run.{blocking, split_patch, Run, clear, blocked, RunAll, done, passed, refined}
@@ -11,14 +11,14 @@ use Rattle.run.specs.Run.{blocking, split_patch, Run, clear, blocked, RunAll, do
 record Alone (S : Skeleton) (r : ℕ) (A : Skeleton) : Type 0 where
   only : (B : Skeleton) → Run S r B → A ≡ B
 
-clear_alone : {S A : Skeleton} {r : ℕ} → blocking S.rows r ≡ Nowhere → A ≡ split_patch S r → Alone S r A
+clear_alone : {S A : Skeleton} {r : ℕ} → blocking S.rows r ≡ None → A ≡ split_patch S r → Alone S r A
 clear_alone {S} {A} {r} k e = record { only = λ B. go }
   where
     go : {B : Skeleton} → Run S r B → A ≡ B
     go (clear k' e') = e ∙ sym e'
     go (blocked k' p q) = found_never k' k
 
-blocked_alone : {S T A : Skeleton} {r b : ℕ} → blocking S.rows r ≡ At b → Alone S b T → Alone T r A → Alone S r A
+blocked_alone : {S T A : Skeleton} {r b : ℕ} → blocking S.rows r ≡ Some b → Alone S b T → Alone T r A → Alone S r A
 blocked_alone {S} {T} {A} {r} {b} k f g = record { only = λ B. go }
   where
     go : {B : Skeleton} → Run S r B → A ≡ B

@@ -1,9 +1,9 @@
 -- The small meshes worked out come out as the table says (01, "Small meshes worked out"): one computed test, and what it says of each case in the words of the promise.
+use Rattle.std.proofs.Common.{Option, Some, None}
 use mathlib.Core.Path.{◌≡◌, refl, sym, ap, ◌∙◌}
 use mathlib.Core.List.Memᴰ
 use mathlib.Core.List.{List, [], ◌∷◌, map, Memᴰ}
 use mathlib.Core.Logic.{inl, inr}
-use mathlib.Core.Option.{Option, none, some}
 use Prim.Native.Nat.{ℕ}
 use native.Mathlib.Omega.{arith}
 use lib.Ieee.{of_bits}
@@ -35,7 +35,7 @@ same_at : {A B : Type 0} (f g : A → B) (xs : List A) → map f xs ≡ map g xs
 same_at f g [] e x k = absurd (Memᴰ.not-nil k)
 same_at f g (y ∷ ys) e x k = elim (Memᴰ.cases_cons k) [ inl i ↦ rw i (cc) | inr j ↦ same_at f g ys (cc) x j ]
 
-same_outcome : {A B : Outcome} → some A ≡ some B → A ≡ B
+same_outcome : {A B : Outcome} → Some A ≡ Some B → A ≡ B
 same_outcome e = cc
 
 comes : (c : Case) → computed c ≡ expected c → Comes c
@@ -43,13 +43,13 @@ unfolding computed expected
 comes c e = go (refine_calls 4 (start c) c.calls) refl e
   where
     go : (o : Option Skeleton) → refine_calls 4 (start c) c.calls ≡ o → seen c o ≡ expected c → Comes c
-    go none k h = let z : ◌≡◌ {A = ℕ} 0 1 = cc in absurd (omega arith)
-    go (some S) k h =
+    go None k h = let z : ◌≡◌ {A = ℕ} 0 1 = cc in absurd (omega arith)
+    go (Some S) k h =
         let outcome = same_outcome h in
         let tables : S ≡ end c = ap (λ (o : Outcome). o.tables) outcome in
         record {
           opens = ap (λ (o : Outcome). o.opens) outcome;
-          runs = refine_calls_runs 4 (start c) (end c) c.calls (k ∙ ap some tables);
+          runs = refine_calls_runs 4 (start c) (end c) c.calls (k ∙ ap Some tables);
           splits = ap (splits_of c) (sym tables) ∙ ap (λ (o : Outcome). o.splits) outcome;
         }
 

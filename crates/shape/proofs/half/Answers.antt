@@ -1,26 +1,22 @@
-use Rattle.sound.proofs.laws.Deciding.{decides_false, decides_same, refused, granted}
+use mathlib.Core.Path.{sym, ◌∙◌}
+use mathlib.Core.Bool.{true≢false}
+use Rattle.sound.proofs.laws.Deciding.{decides_same}
 use Rattle.shape.proofs.laws.Family.{children_later}
-use Rattle.shape.proofs.laws.Whole.{inside_rows}
-use borrow.Author.Rules.{rules}
 use Rattle.shape.proofs.half.Goals as goal
+use Rattle.shape.proofs.half.Goals.{then-no_initial_from, else-no_initial_from}
 
-pub returns-then-not-no_initial_from : goal.returns-then-not-no_initial_from
-returns-then-not-no_initial_from c = decides_false (λ h. refused c.no_initial_from.ensures c.if-not-no_initial_from.true-raw h.midpoints)
-
-pub returns-then-not-children_fit : goal.returns-then-not-children_fit
-returns-then-not-children_fit c = decides_false (λ h. refused c.children_fit.ensures c.if-not-children_fit.true-raw h.bred)
-
-pub parents_follow-requires : goal.parents_follow-requires
-parents_follow-requires c = search (inside_rows, rules)
-
-pub returns : goal.returns
-returns c = let bred = granted c.children_fit.ensures c.if-not-children_fit.false-raw in
-    decides_same
-    (λ q. record {
-      midpoints = granted c.no_initial_from.ensures c.if-not-no_initial_from.false-raw;
-      later = children_later _ _ c.args.c bred.children;
-      bred = bred;
-      parents = q;
-    })
-    (λ h. h.parents)
-    c.parents_follow.ensures
+pub returns-then-children_fit : goal.returns-then-children_fit
+returns-then-children_fit c = elim c.if-no_initial_from.branch [
+  | then-no_initial_from w ↦
+      let bred = w.children_fit.ensures.yes (sym w.value-is ∙ c.if-children_fit.true) in
+      decides_same
+      (λ q. record {
+        midpoints = c.no_initial_from.ensures.yes w.if-no_initial_from.true;
+        later = children_later _ _ c.args.tables.now.counts bred.children;
+        bred = bred;
+        parents = q;
+      })
+      (λ h. h.parents)
+      c.parents_follow.ensures
+  | else-no_initial_from w ↦ absurd (true≢false (sym c.if-children_fit.true ∙ w.value-is ∙ w.if-no_initial_from.false))
+]

@@ -1,6 +1,6 @@
 -- Clauses 4 and 5 in the words of the tables, and how answers to parts of a question answer the whole.
 use mathlib.Core.Path.{◌≡◌, refl, sym, ap, ◌∙◌}
-use mathlib.Core.Bool.{Bool, true≢false}
+use mathlib.Core.Bool.{Bool, false, true≢false}
 use mathlib.Core.List.{List}
 use Prim.Native.Nat.{ℕ, ◌+◌, ◌≤◌, ◌<◌}
 use native.Mathlib.Omega.{arith}
@@ -12,7 +12,6 @@ use Rattle.split.specs.Row.{corners_of, tag_of, edge_of, same_row, child_of}
 use Rattle.split.proofs.laws.Children.{far_at, at_new}
 use Rattle.split.proofs.laws.Rows.{vertices_step}
 use Rattle.split.proofs.laws.Same.{child_leaf, row_same, same_row_lem}
-use Rattle.split.proofs.laws.Places.{Against, less, equal, more, against}
 use Rattle.tables.specs.declared.layout.Counts.{Counts}
 use Rattle.tables.specs.declared.record.Record.{Record}
 use Rattle.tables.specs.Layout.{no_record, no_row, record_at, row_at}
@@ -20,7 +19,7 @@ use Rattle.tables.specs.Mesh.{Mesh, mesh_of}
 use Rattle.tables.proofs.laws.View.{length_up_to, up_to_at}
 use Rattle.sound.specs.Sound.{vertices, rows, record_of, row_of, childless, place, Records, Child, Parent}
 use Rattle.sound.specs.Check.{Decides, bare}
-use Rattle.shape.specs.Shape.{Sided, Children}
+use Rattle.shape.specs.Shape.{Sided, Children, IsParent}
 use Rattle.sound.proofs.laws.Deciding.{decides_same, decides_equal}
 pub use Rattle.sound.proofs.laws.Deciding.{decides_true, decides_false, granted, refused}
 
@@ -31,36 +30,13 @@ module _ {P : Type 0} where
   pub decides_as : {Q : Type 0} {b : Bool} → Decides Q b → (Q → P) → (P → Q) → Decides P b
   decides_as d f g = decides_same f g d
 
+  -- an earlier test of a chain has failed
+  pub decides_no : {r : Bool} → r ≡ false → (P → ⊥) → Decides P r
+  decides_no e n = rw e (decides_false n)
+
   -- the last test of a chain
   pub decides_test : (x y : ℕ) → (x ≡ y → P) → (P → x ≡ y) → Decides P (eqb x y)
   decides_test x y f g = decides_same f g (decides_equal y refl)
-
--- ---- all numbers from t on below n, asked one after the other
-
-abbrev pub All : (ℕ → Type 0) → ℕ → ℕ → Type 0
-All P t n = (k : ℕ) → t ≤ k → k < n → P k
-
-pub record Asked (P : ℕ → Type 0) (t k : ℕ) : Type 0 where
-  pub from : t ≤ k
-  pub passed : All P t k
-
-pub asked_start : (P : ℕ → Type 0) (t : ℕ) → Asked P t t
-asked_start P t = record { from = omega arith; passed = λ k h l. absurd (omega arith) }
-
-module _ {P : ℕ → Type 0} {t k : ℕ} (a : Asked P t k) where
-  pub asked_on : P k → Asked P t (k + 1)
-  asked_on p = record { from = omega arith; passed = λ j h l. go j h l (against j k) }
-    where
-      go : (j : ℕ) → t ≤ j → j < k + 1 → Against j k → P j
-      go j h l (less i) = a.passed j h i
-      go j h l (equal e) = rw e p
-      go j h l (more i) = absurd (omega arith)
-
-  pub asked_stop : {n : ℕ} → k < n → (P k → ⊥) → All P t n → ⊥
-  asked_stop l h all = h (all k a.from l)
-
-  pub asked_end : {n : ℕ} → n ≤ k → All P t n
-  asked_end h j l i = a.passed j l (omega arith)
 
 -- ---- rows but for the first child
 
@@ -146,10 +122,6 @@ pub record Pair (n t q k : ℕ) (a b : Row) : Type 0 where
   pub first : a.parent ≡ q
   pub second : b.parent ≡ q
 
--- what clause 5 asks of every row; a leaf passes
-abbrev pub Passes : Mesh → ℕ → ℕ → Type 0
-Passes m t q = ((row_of m q).child ≡ 0 → ⊥) → Parent m t q
-
 module _ (R W : List ℕ) (c : Counts) where
   module _ {i v : ℕ} {held : Record} {e : Ends} (h : held ≡ record_at R v) where
     pub recorded : Records (bare R W c) i v e → Recorded c.vertices i v held e
@@ -229,11 +201,11 @@ module _ (R W : List ℕ) (c : Counts) where
     }
 
   module _ {t q : ℕ} {held : Row} (l : q < c.rows) (h : held ≡ row_at W q) where
-    pub passes_leaf : held.child ≡ 0 → Passes (bare R W c) t q
-    passes_leaf e split = absurd (split (rw (row_is l h) e))
+    pub leaf_passes : held.child ≡ 0 → IsParent (bare R W c) t q
+    leaf_passes e split = absurd (split (rw (row_is l h) e))
 
-    pub passes_not : (held.child ≡ 0 → ⊥) → (Parent (bare R W c) t q → ⊥) → Passes (bare R W c) t q → ⊥
-    passes_not split none p = none (p (λ e. split (rw (row_is l h) at e)))
+    pub split_passes : (held.child ≡ 0 → ⊥) → IsParent (bare R W c) t q → Parent (bare R W c) t q
+    split_passes split p = p (λ e. split (rw (row_is l h) at e))
 
 -- a later row is no root: its parent is older than it
 pub children_later : (R W : List ℕ) (c : Counts) {i t : ℕ} → Children (bare R W c) i t → (k : ℕ) → t ≤ k → k < c.rows → (row_at W k).parent ≡ k → ⊥

@@ -1,14 +1,13 @@
 -- Of clause 6: the flags tell which midpoints are used.
 use mathlib.Core.Path.{◌≡◌, refl, sym, ap, ◌∙◌}
 use mathlib.Core.Logic.{◌⊎◌, inl, inr}
-use mathlib.Core.Bool.{Bool, true, false, not, true≢false}
+use mathlib.Core.Bool.{Bool, true, false, true≢false}
 use mathlib.Core.List.{List}
 use Prim.Native.Nat.{ℕ, ◌+◌, ◌≤◌, ◌<◌}
 use native.Mathlib.Decide.{ℕ_discrete}
 use native.Mathlib.Omega.{arith}
 use lib.ListN.{length, get_or, set, length-set, replicate, length-replicate, get_or-replicate, get_or-eq_default}
 use lib.Seq.{get_or-set_same, get_or-set_other, set_out}
-use borrow.Author.Tests.{not-false}
 use Rattle.split.specs.declared.row.Row.{Row}
 use Rattle.split.specs.Split.{far}
 use Rattle.split.specs.Row.{read_tag, corners_of}
@@ -17,9 +16,9 @@ use Rattle.tables.specs.declared.layout.Counts.{Counts}
 use Rattle.tables.specs.Layout.{row_at}
 use Rattle.sound.specs.Sound.{Child}
 use Rattle.sound.specs.Check.{Decides, bare}
-use Rattle.sound.proofs.laws.Deciding.{decides_true, decides_false, decides_same, granted, refused}
+use Rattle.sound.proofs.laws.Deciding.{Swept, swept_none, swept_on, swept_all, swept_failed, decides_same}
 use Rattle.shape.specs.Shape.{middle_at, Marked, Followed, AllUsed}
-use Rattle.shape.proofs.laws.Family.{mesh_rows, Asked, asked_start, asked_on, asked_stop, asked_end}
+use Rattle.shape.proofs.laws.Family.{mesh_rows}
 
 -- the midpoint of a row, as the code reads it
 pub middle_is : (w : List ℕ) (r : ℕ) {k x v : ℕ} {held parent : Row} → held ≡ row_at w r → k ≡ held.parent → parent ≡ row_at w k → x ≡ far (read_tag parent.tag) (corners_of held) → v ≡ x → v ≡ middle_at w r
@@ -77,22 +76,22 @@ marking_done k l = record { set = λ q f b. k.shown q f (omega arith); only = k.
 -- ---- the rows from t on, asked one after the other, with the flags of their midpoints
 
 pub record Following (r w : List ℕ) (c : Counts) (i t k : ℕ) (before flags : List ℕ) : Type 0 where
-  pub asked : Asked (Child (bare r w c) i) t k
+  pub asked : Swept (Child (bare r w c) i) t k
   pub marking : Marking w t c.rows k before flags
 
 pub following_none : {r w flags : List ℕ} {c : Counts} {i t : ℕ} → ((v : ℕ) → get_or flags v 0 ≡ 0) → Following r w c i t t flags flags
-following_none z = record { asked = asked_start _ _; marking = marking_start _ _ _ z }
+following_none {t = t} z = record { asked = swept_none t; marking = marking_start _ _ _ z }
 
 module _ {r w : List ℕ} {c : Counts} {i t k : ℕ} {before flags : List ℕ} (f : Following r w c i t k before flags) where
   pub following_all : c.rows ≤ k → Followed r w c i t true flags
-  following_all l = record { decides = decides_true (asked_end f.asked (rw (mesh_rows r w c) l)); marked = λ e. marking_done f.marking l }
+  following_all l = record { decides = swept_all f.asked (rw (mesh_rows r w c) l); marked = λ e. marking_done f.marking l }
 
   module _ (l : k < c.rows) {y : Bool} (d : Decides (Child (bare r w c) i k) y) where
-    pub following_stop : not y ≡ true → Followed r w c i t false flags
-    following_stop e = record { decides = decides_false (asked_stop f.asked (rw (mesh_rows r w c) l) (refused d e)); marked = λ b. absurd (true≢false (sym b)) }
+    pub following_stop : y ≡ false → Followed r w c i t false flags
+    following_stop e = record { decides = swept_failed f.asked (rw (mesh_rows r w c) l) (d.no e); marked = λ b. absurd (true≢false (sym b)) }
 
-    pub following_on : {m : ℕ} {after : List ℕ} → not y ≡ false → m ≡ middle_at w k → after ≡ set flags m 1 → Following r w c i t (k + 1) before after
-    following_on e g h = record { asked = asked_on f.asked (granted d e); marking = marking_next f.marking l g h }
+    pub following_on : {m : ℕ} {after : List ℕ} → y ≡ true → m ≡ middle_at w k → after ≡ set flags m 1 → Following r w c i t (k + 1) before after
+    following_on e g h = record { asked = swept_on f.asked (d.yes e); marking = marking_next f.marking l g h }
 
 -- ---- all of them
 
@@ -109,6 +108,3 @@ used_marked {w} {flags} c {i} {t} m few d = decides_same (λ f v a b. m.only v (
   where
     go : (v : ℕ) → v < c.vertices → get_or flags v 0 ≡ 0 → (k : ℕ) × (t ≤ k) × (k < c.rows) × (middle_at w k ≡ v) → ⊥
     go v l e u = m.set u.0 u.1 u.2 (rw u.3 (omega arith)) (rw u.3 e)
-
-pub followed_marked : {r w flags : List ℕ} {c : Counts} {i t : ℕ} {y : Bool} → Followed r w c i t y flags → not y ≡ false → Marked w t c.rows flags
-followed_marked {y = y} f e = f.marked (not-false y e)

@@ -1,25 +1,26 @@
--- The only float whose bits are all zero is plus zero: what a table's unused rows hold. And a loop that asks all places and stops at none.
-use mathlib.Core.Path.{◌≡◌, refl, sym, ap, ◌∙◌}
-use mathlib.Core.Bool.{Bool, true, false, ◌&&◌, true≢false}
-use Prim.Native.Nat.{ℕ, ◌+◌, ◌≤◌, ◌<◌}
+-- The only float whose bits are all zero is plus zero: what a table's unused rows hold. And a test that is asked of all numbers.
+use mathlib.Core.Path.{◌≡◌, sym, subst, ap, ◌∙◌}
+use mathlib.Core.Bool.{Bool, true, false, true≢false}
+use mathlib.Core.List.{List}
+use Prim.Native.Nat.{ℕ, ◌+◌, ◌-◌, ◌≤◌, ◌<◌}
+use native.Mathlib.Nat.{add-sub_of_le}
+use lib.ListN.{length, get_or, take, drop, replicate, length-drop}
+use lib.Seq.{get_or-drop}
 use native.Mathlib.Omega.{arith}
 use lib.Dec.{eqb, lit<}
-use lib.Ieee.{Float, binary64, fits, ne, of_bits, to_bits}
+use lib.Ieee.{Float, binary64, fits, of_bits, to_bits}
 use lib.Ieee.Bits.{of_bits-to_bits, to_bits-of_bits}
 use borrow.Author.Rules.{const_no_nan}
 use borrow.Author.Tests.{eqb-true, eqb-false}
 use denote.Floats.{passes}
 use Rattle.tables.specs.Layout.{no_float}
 use Rattle.sound.specs.Check.{Decides}
-use Rattle.sound.proofs.laws.Deciding.{All, decides_true, decides_false, decides_same, swept_on}
-
-zero_equals : ne no_float no_float ≡ false
-unfolding ne of_bits
-zero_equals = refl
-
--- a NaN is not zero
-pub unequal_not_zero : (x : Float) → ne x x ≡ true → x ≡ no_float → ⊥
-unequal_not_zero x e p = true≢false (sym e ∙ ap (λ (y : Float). ne y y) p ∙ zero_equals)
+use Rattle.sound.proofs.laws.Deciding.{All, decides_copies}
+use Rattle.std.proofs.lemmas.List.{take_all}
+use Rattle.std.specs.Bool.{MatchBool}
+use Rattle.std.specs.List as L
+use Rattle.std.specs.List.{HoldsAt}
+use Rattle.shape.specs.Shape.{EachPasses}
 
 -- a value that fits its format is read back from its bits
 pub decides_zero : (x : Float) → fits binary64 x ≡ true → Decides (x ≡ no_float) (eqb (to_bits binary64 x) 0)
@@ -28,25 +29,25 @@ decides_zero x f = record {
   no = λ e p. eqb-false _ 0 e (ap (to_bits binary64) p ∙ to_bits-of_bits binary64 0 (lit< tt) (const_no_nan binary64 0 tt));
 }
 
--- ---- all places from one on, below n, asked with no stop
+-- ---- a test that every number of a list from a place on was asked
 
--- the invariant: b tells whether each place below i has passed
-pub record Sifted (P : ℕ → Type 0) (from n i : ℕ) (b : Bool) : Type 0 where
-  pub reached : from ≤ i
-  pub within : i ≤ n
-  pub decides : Decides (All P from i) b
+-- the invariant of the loop that asks it, of the numbers so far
+abbrev pub Tested : {A : Type 0} → (A → Bool → Type 0) → List A → Bool → Type 0
+Tested test xs b = MatchBool b (L.All (λ x. test x true) xs) ((k : ℕ) × (k < length xs) × HoldsAt (λ x. test x false) xs k)
 
-pub sifted_none : {P : ℕ → Type 0} {from n : ℕ} → from ≤ n → Sifted P from n from true
-sifted_none h = record { reached = omega arith; within = h; decides = decides_true (λ k f l. absurd (omega arith)) }
+pub each_tested : {A : Type 0} (test : A → Bool → Type 0) (l : List A) (n i : ℕ) {b : Bool} → length l ≤ n → length (take n l) ≤ i → Tested test (take i (take n l)) b → EachPasses test l b
+each_tested test l n i {b} f g h = go b (subst (λ xs. Tested test xs b) (take_all i (take n l) g ∙ take_all n l f) h)
+  where
+    go : (b : Bool) → Tested test l b → EachPasses test l b
+    go true h = record { all = λ e. h; some = λ e. absurd (true≢false e) }
+    go false h = record { all = λ e. absurd (true≢false (sym e)); some = λ e. h }
 
-module _ {P : ℕ → Type 0} {from n i : ℕ} {b : Bool} (s : Sifted P from n i b) where
-  pub sifted_on : {x r : Bool} → i < n → Decides (P i) x → r ≡ (x && b) → Sifted P from n (i + 1) r
-  sifted_on {x} {r} l d e = record { reached = omega (arith, s.reached); within = omega arith; decides = rw e (go x b d s.decides) }
-    where
-      go : (x b : Bool) → Decides (P i) x → Decides (All P from i) b → Decides (All P from (i + 1)) (x && b)
-      go false b d a = decides_false (λ all. d.no refl (all i s.reached (omega arith)))
-      go true false d a = decides_false (λ all. a.no refl (λ k f h. all k f (omega arith)))
-      go true true d a = decides_true (swept_on (record { reached = s.reached; held = a.yes refl }) (d.yes refl)).held
+-- b is the answer of a test that z alone passes
+pub decides_each : {A : Type 0} {test : A → Bool → Type 0} (z : A) (l : List A) (from : ℕ) {b : Bool} → EachPasses test (drop from l) b → ((x : A) → test x true → x ≡ z) → ((x : A) → test x false → x ≡ z → ⊥) → Decides (drop from l ≡ replicate (length l - from) z) b
+decides_each {A} {test} z l from {b} e same other = decides_copies z z l from (record { yes = λ y k f g. sym (read k f) ∙ same _ (e.all y (k - from) z (omega (arith, length-drop from l))); no = λ n. none (e.some n) })
+  where
+    read : (k : ℕ) → from ≤ k → get_or (drop from l) (k - from) z ≡ get_or l k z
+    read k f = get_or-drop from l (k - from) z ∙ ap (λ (n : ℕ). get_or l n z) (add-sub_of_le f)
 
-  pub sifted_all : n ≤ i → Decides (All P from n) b
-  sifted_all l = decides_same (λ f k g h. f k g (omega arith)) (λ f k g h. f k g (omega (arith, s.within))) s.decides
+    none : (k : ℕ) × (k < length (drop from l)) × HoldsAt (λ x. test x false) (drop from l) k → All (λ k. get_or l k z ≡ z) from (length l) → ⊥
+    none (k, g, h) all = other _ (h z) (get_or-drop from l k z ∙ all (from + k) (omega arith) (omega (arith, length-drop from l)))

@@ -1,4 +1,5 @@
 -- No coordinate of a used vertex of sound tables is over 2 ^ 1000 or not finite: opening afresh says it of the initial vertices, and a midpoint's are means of its parents'.
+use Rattle.std.proofs.Common.{None}
 use mathlib.Core.Path.{◌≡◌, refl}
 use mathlib.Core.Bool.{true, false, ◌&&◌}
 use mathlib.Core.List.{List}
@@ -19,7 +20,6 @@ use Rattle.tables.specs.declared.layout.Counts.{Counts}
 use Rattle.tables.specs.Layout.{no_float, no_point, point_cells, point_at, record_at}
 use Rattle.tables.specs.Mesh.{Lent, Mesh, flat, mesh_of}
 use Rattle.tables.proofs.laws.View.{length_flat, length_up_to, mesh_point}
-use Rattle.intake.specs.declared.answer.Found.TheVariants.{Nowhere}
 use Rattle.intake.specs.Search.{first}
 use Rattle.intake.specs.Causes.{usable, unusable}
 use Rattle.intake.proofs.laws.Search.{first_none}
@@ -49,7 +49,7 @@ none_unusable F v h =
     let (y, z) = and_both (usable (get_or F (3 * v + 1) nan)) (usable (get_or F (3 * v + 2) nan)) yz in
     record { x = x; y = y; z = z }
 
-module _ (xs : List Point) (h : first (unusable (flat point_cells xs)) (length (flat point_cells xs) / 3) ≡ Nowhere) where
+module _ (xs : List Point) (h : first (unusable (flat point_cells xs)) (length (flat point_cells xs) / 3) ≡ None) where
   spelt : (v q : ℕ) → v < length xs → q < 3 → get_or (flat point_cells xs) (3 * v + q) nan ≡ get_or (point_cells (get_or xs v no_point)) q nan
   spelt v q l m = flat_at point_cells 3 (λ p. refl) xs v q no_point nan l m
 

@@ -1,4 +1,5 @@
 -- An accepted opening gives the colours of Algorithm 2 and the order and tag of Definition 2 (demand 2).
+use Rattle.std.proofs.Common.{Result, Ok, Err}
 use mathlib.Core.Path.{◌≡◌, refl, sym, ap, subst, ◌∙◌}
 use mathlib.Core.List.{List}
 use Prim.Native.Nat.{ℕ, ◌/◌, ◌<◌}
@@ -6,13 +7,12 @@ use native.Mathlib.Omega.{arith}
 use lib.ListN.{length}
 use lib.Ieee.{Float}
 use Rattle.tables.specs.declared.layout.Counts.{Counts}
+use Rattle.tables.specs.declared.refusal.Refusal.{Refusal}
 use Rattle.tables.specs.Layout.{point_at, record_at, row_at, started}
 use Rattle.tables.specs.Mesh.{Lent, Mesh, laid}
 use Rattle.tables.proofs.laws.View.{mesh_row, mesh_record, mesh_point}
 use Rattle.intake.specs.Cells.{Cells, quads}
-use Rattle.intake.specs.declared.answer.Verdict.{Verdict}
-use Rattle.intake.specs.declared.answer.Verdict.TheVariants as verdict
-use Rattle.opening.specs.declared.answer.Opened.TheVariants as answer
+use Rattle.intake.specs.Verdict.{Verdict}
 use Rattle.opening.specs.Colours.{colours, largest}
 use Rattle.opening.specs.Order.{given, root_of}
 use Rattle.opening.specs.Opening as opening
@@ -48,7 +48,7 @@ module _ (n : ℕ) {E : Cells} (d : Proper (shade E n) E) where
 abbrev pub size : List Float → List ℕ → Counts
 size F E = started (length F / 3) (length E / 4)
 
-module _ (F : List Float) (E : List ℕ) (lp lv lr : ℕ) (passed : judged F E lp lv lr ≡ verdict.Passed) where
+module _ (F : List Float) (E : List ℕ) (lp lv lr : ℕ) (passed : judged F E lp lv lr ≡ Ok tt) where
   abbrev table : Lent
   table = laid (opened_mesh F (quads E)) lp lv lr
 
@@ -90,21 +90,21 @@ module _ (F : List Float) (E : List ℕ) (lp lv lr : ℕ) (passed : judged F E l
 
 -- ---- opening
 
-refused_never : {X : Type 0} {c : Counts} {n p : ℕ} → answer.Done c ≡ answer.Refused n p → X
+refused_never : {X : Type 0} {c : Counts} {r : Refusal} → ◌≡◌ {A = Result Counts Refusal} (Ok c) (Err r) → X
 refused_never e = let z : ◌≡◌ {A = ℕ} 0 1 = cc in absurd (omega arith)
 
-same_counts : {a b : Counts} → answer.Done a ≡ answer.Done b → a ≡ b
+same_counts : {a b : Counts} → ◌≡◌ {A = Result Counts Refusal} (Ok a) (Ok b) → a ≡ b
 same_counts e = cc
 
 -- what holds of the opened mesh laid into the lent tables holds after an accepted opening
-pub opens_laid : (P : Lent → Counts → Type 0) {F : List Float} {E : List ℕ} {t : Lent} {c : Counts} {t' : Lent} → Opens F E t (answer.Done c) t'
-    → ((lp lv lr : ℕ) → judged F E lp lv lr ≡ verdict.Passed → P (laid (opened_mesh F (quads E)) lp lv lr) (size F E)) → P t' c
+pub opens_laid : (P : Lent → Counts → Type 0) {F : List Float} {E : List ℕ} {t : Lent} {c : Counts} {t' : Lent} → Opens F E t (Ok c) t'
+    → ((lp lv lr : ℕ) → judged F E lp lv lr ≡ Ok tt → P (laid (opened_mesh F (quads E)) lp lv lr) (size F E)) → P t' c
 opens_laid P {F} {E} {t} {c} {t'} o h = go (verdict_on F E t) refl o.answers o.leaves
   where
-    go : (v : Verdict) → verdict_on F E t ≡ v → answer.Done c ≡ opening.answer v (length F / 3) (length E / 4) → t' ≡ opening.tables v F E t → P t' c
-    go (verdict.Refused n p) e a l = refused_never a
-    go verdict.Passed e a l = subst (P t') (sym (same_counts a)) (subst (λ (x : Lent). P x (size F E)) (sym l) (h (length t.points) (length t.records) (length t.rows) e))
+    go : (v : Verdict) → verdict_on F E t ≡ v → Ok c ≡ opening.answer v (length F / 3) (length E / 4) → t' ≡ opening.tables v F E t → P t' c
+    go (Err r) e a l = refused_never a
+    go (Ok x) e a l = subst (P t') (sym (same_counts a)) (subst (λ (x : Lent). P x (size F E)) (sym l) (h (length t.points) (length t.records) (length t.rows) e))
 
 -- demand 2, of opening
-pub opens_demanded : {F : List Float} {E : List ℕ} {t : Lent} {c : Counts} {t' : Lent} → Opens F E t (answer.Done c) t' → OpenedAsDemanded F E c t'
+pub opens_demanded : {F : List Float} {E : List ℕ} {t : Lent} {c : Counts} {t' : Lent} → Opens F E t (Ok c) t' → OpenedAsDemanded F E c t'
 opens_demanded {F} {E} o = opens_laid (λ t c. OpenedAsDemanded F E c t) o (laid_demanded F E)

@@ -1,4 +1,5 @@
 -- Opened tables are sound.
+use Rattle.std.proofs.Common.{Ok}
 use mathlib.Core.Path.{◌≡◌, refl, sym, ap}
 use mathlib.Core.List.{List, map}
 use Prim.Native.Nat.{ℕ, ◌/◌, ◌%◌, ◌≤◌, ◌<◌}
@@ -11,7 +12,6 @@ use Rattle.tables.specs.Layout.{no_point, no_record, no_row, point_at, started}
 use Rattle.tables.specs.Mesh.{Counting, mesh_of, laid}
 use Rattle.tables.proofs.laws.View.{Within, length_up_to, up_to_at, mesh_laid}
 use Rattle.intake.specs.Cells.{Cells, quads}
-use Rattle.intake.specs.declared.answer.Verdict.TheVariants.{Passed}
 use Rattle.opening.specs.Colours.{colours, largest}
 use Rattle.opening.specs.Order.{root_of}
 use Rattle.opening.specs.Opening.{initial, judged, opened_mesh}
@@ -168,5 +168,5 @@ module _ (F : List Float) (E : List ℕ) (lp lv lr : ℕ) (t : Allowed F E lp lv
       (omega (arith, opened_rows F (quads E), some_element))
       (length F / 3) (length E / 4) (opened_grown F (quads E) (opened_afresh F (quads E) lengths.thirds some_element t.tests)) (opened_conforming F (quads E))
 
-pub opened_sound : (F : List Float) (E : List ℕ) (lp lv lr : ℕ) → judged F E lp lv lr ≡ Passed → Sound (laid (opened_mesh F (quads E)) lp lv lr) (started (length F / 3) (length E / 4))
+pub opened_sound : (F : List Float) (E : List ℕ) (lp lv lr : ℕ) → judged F E lp lv lr ≡ Ok tt → Sound (laid (opened_mesh F (quads E)) lp lv lr) (started (length F / 3) (length E / 4))
 opened_sound F E lp lv lr h = tested_sound F E lp lv lr (allowed F E lp lv lr h)

@@ -1,4 +1,5 @@
 -- Elements whose numbers were reordered pass where they passed before, and open to the same colours and rows.
+use Rattle.std.proofs.Common.{None}
 use mathlib.Core.Path.{◌≡◌, sym, ap, ◌∙◌, subst}
 use mathlib.Core.Bool.{Bool, true}
 use mathlib.Core.List.{List}
@@ -11,7 +12,6 @@ use Rattle.split.specs.declared.row.Row.{Row}
 use Rattle.tables.specs.Layout.{no_row}
 use Rattle.intake.specs.Cells.{Cells}
 use Rattle.tables.specs.Mesh.{up_to}
-use Rattle.intake.specs.declared.answer.Found.TheVariants.{Nowhere}
 use Rattle.intake.specs.Search.{first}
 use Rattle.intake.specs.Causes.{vertex, missing, double, same, third}
 use Rattle.opening.specs.Colours.{colours, garish, largest}
@@ -46,8 +46,8 @@ named_single x = record { apart = x.apart }
 
 module _ {F : List Float} {E : Cells} (t : Tested F E) {E' : Cells} (r : Reordered E E') where
   -- a test that follows from the same test of E
-  clear : (test test' : ℕ → Bool) → ((k : ℕ) → k < E.count → test' k ≡ true → test k ≡ true) → first test E.count ≡ Nowhere → first test' E'.count ≡ Nowhere
-  clear test test' f e = subst (λ n. first test' n ≡ Nowhere) r.long (first_nowhere test' E.count (λ k h. refuted (test' k) (test k) (f k h) (first_none test E.count e k h)))
+  clear : (test test' : ℕ → Bool) → ((k : ℕ) → k < E.count → test' k ≡ true → test k ≡ true) → first test E.count ≡ None → first test' E'.count ≡ None
+  clear test test' f e = subst (λ n. first test' n ≡ None) r.long (first_nowhere test' E.count (λ k h. refuted (test' k) (test k) (f k h) (first_none test E.count e k h)))
 
   pub tested_reordered : Single E' → Tested F E'
   tested_reordered s = record {

@@ -1,10 +1,10 @@
 -- Tests that agree, or follow from each other, below a number; and what four tests say together.
+use Rattle.std.proofs.Common.{None}
 use mathlib.Core.Path.{◌≡◌, refl, sym, ◌∙◌}
 use mathlib.Core.Bool.{Bool, true, false, ◌&&◌, ◌||◌, cond, true≢false, or-true}
 use Prim.Native.Nat.{ℕ, zero, suc, ◌+◌, ◌≤◌, ◌<◌}
 use native.Mathlib.Numerals.{add-one}
 use native.Mathlib.Omega.{arith}
-use Rattle.intake.specs.declared.answer.Found.TheVariants.{Nowhere}
 use Rattle.intake.specs.Search.{first, count}
 use Rattle.intake.proofs.laws.Search.{first_start, first_passed}
 
@@ -26,7 +26,7 @@ refuted false b f e = refl
 
 -- ---- searches
 
-pub first_nowhere : (test : ℕ → Bool) (n : ℕ) → ((k : ℕ) → k < n → test k ≡ false) → first test n ≡ Nowhere
+pub first_nowhere : (test : ℕ → Bool) (n : ℕ) → ((k : ℕ) → k < n → test k ≡ false) → first test n ≡ None
 first_nowhere test zero h = first_start test
 first_nowhere test (suc n) h = rw add-one at (first_passed test n (first_nowhere test n (λ k l. h k (omega arith))) (h n (omega arith)))
 

@@ -1,4 +1,5 @@
 -- What each test says of an input that passed them all, and that an input of which they say it passes.
+use Rattle.std.proofs.Common.{None, Ok}
 use mathlib.Core.Path.{◌≡◌, refl}
 use mathlib.Core.Bool.{Bool, true, false, ◌||◌}
 use mathlib.Core.List.{List}
@@ -10,14 +11,11 @@ use lib.ListN.{length}
 use lib.Ieee.{Float}
 use Rattle.tables.specs.Layout.{room_of, point_width, record_width, row_width, most_rows, most_vertices}
 use Rattle.intake.specs.Cells.{Cells, quads}
-use Rattle.intake.specs.declared.answer.Found.{Found}
-use Rattle.intake.specs.declared.answer.Found.TheVariants.{At, Nowhere}
-use Rattle.intake.specs.declared.answer.Verdict.{Verdict}
-use Rattle.intake.specs.declared.answer.Verdict.TheVariants.{Passed}
 use Rattle.intake.specs.Search.{first}
 use Rattle.intake.specs.Causes.{wrong_input, wrong_lent, has_no_room, unusable, vertex, missing, double, same, third}
+use Rattle.opening.proofs.laws.Judging.{when_passed, at_passed}
 use Rattle.opening.specs.Colours.{garish}
-use Rattle.intake.specs.Verdict.{when, at, fitting, plain}
+use Rattle.intake.specs.Verdict.{fitting, plain}
 use Rattle.opening.specs.Opening.{late, judged}
 use Rattle.opening.proofs.laws.Passed.{there_passed, apart_passed}
 
@@ -76,28 +74,20 @@ roomed vertices elements points records rows w n =
 -- ---- tests 3 to 8
 
 pub record Tested (F : List Float) (E : Cells) : Type 0 where
-  pub usable : first (unusable F) (length F / 3) ≡ Nowhere
-  pub there : first (missing (length F / 3) E) E.count ≡ Nowhere
-  pub single : first (double E) E.count ≡ Nowhere
-  pub other : first (same E) E.count ≡ Nowhere
-  pub faces : first (third E) E.count ≡ Nowhere
-  pub colours : first (garish E) (length F / 3) ≡ Nowhere
+  pub usable : first (unusable F) (length F / 3) ≡ None
+  pub there : first (missing (length F / 3) E) E.count ≡ None
+  pub single : first (double E) E.count ≡ None
+  pub other : first (same E) E.count ≡ None
+  pub faces : first (third E) E.count ≡ None
+  pub colours : first (garish E) (length F / 3) ≡ None
 
 -- what tests 4 and 5 say of each element, however many there are
 pub record Named (vertices : ℕ) (E : Cells) : Type 0 where
   pub there : (k q : ℕ) → k < E.count → q < 4 → vertex E k q < vertices
   pub apart : (k p q : ℕ) → k < E.count → p < 4 → q < 4 → vertex E k p ≡ vertex E k q → p ≡ q
 
-when_passed : (b : Bool) (n : ℕ) (next : Verdict) → when b n next ≡ Passed → (b ≡ false) × (next ≡ Passed)
-when_passed true n next e = let z : ◌≡◌ {A = ℕ} 0 1 = cc in absurd (omega arith)
-when_passed false n next e = (refl, e)
-
-at_passed : (f : Found) (n : ℕ) (next : Verdict) → at f n next ≡ Passed → (f ≡ Nowhere) × (next ≡ Passed)
-at_passed (At q) n next e = let z : ◌≡◌ {A = ℕ} 0 1 = cc in absurd (omega arith)
-at_passed Nowhere n next e = (refl, e)
-
 module _ (F : List Float) (E : Cells) where
-  pub tested : plain F E (late E (length F / 3)) ≡ Passed → Tested F E
+  pub tested : plain F E (late E (length F / 3)) ≡ Ok tt → Tested F E
   unfolding plain late
   tested h2 =
       let (three, h3) = at_passed (first (unusable F) (length F / 3)) _ _ h2 in
@@ -108,7 +98,7 @@ module _ (F : List Float) (E : Cells) where
       let (eight, h8) = at_passed (first (garish E) (length F / 3)) _ _ h7 in
       record { usable = three; there = four; single = five; other = six; faces = seven; colours = eight }
 
-  pub tested_passes : Tested F E → plain F E (late E (length F / 3)) ≡ Passed
+  pub tested_passes : Tested F E → plain F E (late E (length F / 3)) ≡ Ok tt
   unfolding plain late
   tested_passes t = rw (t.usable, t.there, t.single, t.other, t.faces, t.colours)
 
@@ -123,7 +113,7 @@ pub record Allowed (F : List Float) (E : List ℕ) (points records rows : ℕ) :
   pub room : has_no_room (length F / 3) (length E / 4) points records rows ≡ false
   pub tests : Tested F (quads E)
 
-pub allowed : (F : List Float) (E : List ℕ) (points records rows : ℕ) → judged F E points records rows ≡ Passed → Allowed F E points records rows
+pub allowed : (F : List Float) (E : List ℕ) (points records rows : ℕ) → judged F E points records rows ≡ Ok tt → Allowed F E points records rows
 unfolding judged fitting
 allowed F E points records rows h =
     let (one, h1) = when_passed (wrong_input (length F) (length E) || wrong_lent points records rows) _ _ h in
@@ -131,6 +121,6 @@ allowed F E points records rows h =
     let (input, lent) = neither _ _ one in
     record { input = input; lent = lent; room = two; tests = tested F (quads E) h2 }
 
-pub allowed_passes : (F : List Float) (E : List ℕ) (points records rows : ℕ) → Allowed F E points records rows → judged F E points records rows ≡ Passed
+pub allowed_passes : (F : List Float) (E : List ℕ) (points records rows : ℕ) → Allowed F E points records rows → judged F E points records rows ≡ Ok tt
 unfolding judged fitting
 allowed_passes F E points records rows w = rw (w.input, w.lent, w.room) (tested_passes F (quads E) w.tests)

@@ -2,8 +2,8 @@
 use mathlib.Core.Path.{◌≡◌, refl, sym, ap, ◌∙◌}
 use mathlib.Core.Bool.{Bool, true, ◌&&◌, true≢false}
 use mathlib.Core.List.{List, map}
-use Prim.Native.Nat.{ℕ, ◌+◌, ◌-◌, ◌*◌, ◌/◌, ◌≤◌, ◌<◌}
-use native.Mathlib.Nat.{add-zero, sub-zero}
+use Prim.Native.Nat.{ℕ, ◌+◌, ◌*◌, ◌/◌, ◌≤◌, ◌<◌}
+use native.Mathlib.Nat.{add-zero}
 use native.Mathlib.Omega.{arith}
 use borrow.Author.Tests.{lt-ltb}
 use lib.ListN.{length, get_or, take}
@@ -19,7 +19,7 @@ use Rattle.tables.specs.Layout.{no_row, point_at, record_at, row_at, row_from, r
 use Rattle.tables.specs.Mesh.{Mesh, mesh_of, up_to}
 use Rattle.tables.proofs.laws.View.{up_to_at, flat_up_to}
 use Rattle.tables.proofs.laws.Rows.{points}
-use Rattle.intake.specs.declared.answer.Verdict.TheVariants.{Passed}
+use Rattle.std.proofs.Common.{Ok}
 use Rattle.intake.specs.Cells.{Cells, grid_of, cells}
 use Rattle.intake.specs.Verdict.{plain}
 use Rattle.opening.specs.Colours.{colours, largest}
@@ -52,7 +52,7 @@ module _ (a b : Row) (leaf : b.child ≡ 0) where
 module _ (F : List Float) (E : Cells) (R W : List ℕ) where
   -- opening F and E passes tests 3 to 8, and gives the colours and, but for the first child, the rows that stand in front of the tables
   record Alike : Type 0 where
-    opens : plain F E (late E (length F / 3)) ≡ Passed
+    opens : plain F E (late E (length F / 3)) ≡ Ok tt
     colours : (opened_mesh F E).records ≡ up_to (record_at R) (length F / 3)
     rows : (opened_mesh F E).rows ≡ map childless (up_to (row_at W) E.count)
 
@@ -127,24 +127,21 @@ module _ {P : List Float} {R W : List ℕ} {c : Counts} (fit : Fitting (lent P R
   read_there = record { long = refl; same = λ k q h l. sym (ap (λ (r : Row). at (corners_of r) q) (row_there k h) ∙ each_of_four (λ q. at (corners_of (row_from W (8 * k))) q ≡ get_or W (8 * k + q) 0) (rw add-zero) refl refl refl q l) }
 
   -- so is the answer of `agrees`, in memory for the index
-  module _ (S : List ℕ) (room : most_vertices + 4 * t ≤ length S) {b : Bool} (e : b ≡ (workable (length (take (3 * i - 0) P)) t (length (take (most_vertices + 4 * t - 0) S)) && agreed (take (3 * i - 0) P) (cells W (grid_of true t)) R W)) where
+  module _ (S : List ℕ) (room : most_vertices + 4 * t ≤ length S) {b : Bool} (e : b ≡ (workable (length (take (3 * i) P)) t (length (take (most_vertices + 4 * t) S)) && agreed (take (3 * i) P) (cells W (grid_of true t)) R W)) where
     abbrev F : List Float
-    F = take (3 * i - 0) P
+    F = take (3 * i) P
 
     abbrev memory : ℕ
-    memory = length (take (most_vertices + 4 * t - 0) S)
-
-    p : F ≡ take (3 * i) P
-    p = rw sub-zero
+    memory = length (take (most_vertices + 4 * t) S)
 
     enough : most_vertices + 4 * t ≤ memory
-    enough = rw (sub-zero (most_vertices + 4 * t), length-take-le (most_vertices + 4 * t) S room) (omega arith)
+    enough = rw (length-take-le (most_vertices + 4 * t) S room) (omega arith)
 
     fs : given_points m i ≡ F
-    fs = points_given ∙ sym p
+    fs = points_given
 
     long : length F ≡ 3 * i
-    long = ap length p ∙ length-take-le (3 * i) P points_within
+    long = length-take-le (3 * i) P points_within
 
     vertices : length F / 3 ≡ i
     vertices = omega (arith, long)

@@ -1,41 +1,23 @@
--- The steps of the check put together: a table whose heads are zero, and what each answer says of the whole.
-use mathlib.Core.Path.{◌≡◌, sym, ap, ◌∙◌}
-use mathlib.Core.Bool.{Bool, true, false, not}
-use mathlib.Core.List.{List, ◌++◌}
-use Prim.Native.Nat.{ℕ, ◌+◌, ◌-◌, ◌*◌, ◌≤◌, ◌<◌, min}
-use native.Mathlib.Nat.{sub-zero}
+-- The steps of the check put together: what each answer says of the whole.
+use mathlib.Core.Path.{◌≡◌}
+use mathlib.Core.Bool.{Bool, true, false}
+use mathlib.Core.List.{List}
+use Prim.Native.Nat.{ℕ, ◌+◌, ◌*◌, ◌≤◌}
 use native.Mathlib.Omega.{arith}
-use borrow.Author.Tests.{leb-true, leb-false}
-use lib.Dec.{leb}
-use lib.ListN.{length, get_or, take, drop, replicate, length-append, length-drop, length-replicate, get_or-replicate, get_or-append}
-use lib.Seq.{length-take-le}
+use lib.ListN.{length, replicate, length-replicate}
 use lib.Ieee.{Float}
-use Rattle.tables.specs.Layout.{most_rows, most_vertices}
+use Rattle.tables.specs.Layout.{most_vertices}
 use Rattle.tables.specs.declared.layout.Counts.{Counts}
 use Rattle.tables.specs.Mesh.{mesh_of}
 use Rattle.sound.specs.Sound.{Sound, Afresh}
 use Rattle.sound.specs.Check.{Decides, lent}
-use Rattle.sound.proofs.laws.Deciding.{decides_true, decides_false, decides_same, granted, refused}
-use Rattle.shape.specs.declared.answer.Shape.{Shape}
-use Rattle.shape.specs.declared.answer.Shape.TheVariants.{Not, Runs}
+use Rattle.sound.proofs.laws.Deciding.{decides_true, decides_false, decides_same}
+use Rattle.std.proofs.Common.{Option, Some, None}
+use Rattle.shape.specs.declared.answer.Runs.{Runs}
 use Rattle.shape.specs.Shape.{Shapely, Shapes}
 use Rattle.shape.proofs.laws.Fitted.{fitting_inside}
-use Rattle.soundness.specs.Check.{memory_for, SoundIn, heads, Fresh, Run, Rising, Rest, Pairs, Clauses, AllRuled}
+use Rattle.soundness.specs.Check.{memory_for, Run, Rising, Rest, Pairs, Clauses, AllRuled}
 use Rattle.soundness.proofs.laws.Checked.{initials_of, roots_of, sound_of, clauses_of, whole_of}
-
--- a table whose first n numbers were cleared, over any n, so that no zeros are written out
-module _ (n : ℕ) (l : List ℕ) {a : List ℕ} (e : a ≡ replicate n 0) where
-  front_zero : (v : ℕ) → v < n → get_or (a ++ drop n l) v 0 ≡ 0
-  front_zero v h = get_or-append a (drop n l) 0 v (rw (e, length-replicate {A = ℕ} n 0) h) ∙ rw e (get_or-replicate n v 0 0 h)
-
-  front_length : n ≤ length l → length (a ++ drop n l) ≡ length l
-  front_length h = rw (length-append a (drop n l), e, length-replicate {A = ℕ} n 0, length-drop n l) (omega arith)
-
-pub heads_fresh : (small : Bool) (l : List ℕ) {k : ℕ} {a : List ℕ} → k ≡ heads small → a ≡ replicate (length (take (k - 0) l)) 0 → heads small + most_vertices ≤ length l → Fresh small (a ++ drop (k - 0) l)
-heads_fresh small l {k} {a} q e h =
-    let long : length (take (k - 0) l) ≡ heads small = rw (q, sub-zero (heads small)) (length-take-le (heads small) l (omega arith)) in
-    let f : a ≡ replicate (heads small) 0 = e ∙ ap (λ (m : ℕ). replicate m 0) long in
-    rw (q, sub-zero (heads small)) (record { size = rw (front_length (heads small) l f (omega arith)) h; clear = front_zero (heads small) l f })
 
 module _ {p : List Float} {r w : List ℕ} {c : Counts} {i t : ℕ} (b : Shapely p r w c i t) where
   -- what the index of pairs relies on
@@ -78,22 +60,22 @@ module _ {p : List Float} {r w : List ℕ} {c : Counts} {i t : ℕ} (b : Shapely
   -- ---- the answers
 
   module _ {a : Bool} (x : Decides (Afresh (mesh_of (lent p r w) c) i t) a) where
-    pub judge_stale : not a ≡ true → Decides (Sound (lent p r w) c) false
-    judge_stale e = decides_false (λ s. refused x e (afresh_of s))
+    pub judge_stale : a ≡ false → Decides (Sound (lent p r w) c) false
+    judge_stale e = decides_false (λ s. x.no e (afresh_of s))
 
-    module _ (e : not a ≡ false) where
+    module _ (e : a ≡ true) where
       pub judge_roots : c.vertices ≤ i → Decides (Sound (lent p r w) c) true
-      judge_roots n = decides_true (sound_from (granted x e) (rest_none n))
+      judge_roots n = decides_true (sound_from (x.yes e) (rest_none n))
 
-      pub judge_pairs : {f : Bool} → Decides (AllRuled p r c i) f → not f ≡ false → {q : Bool} → Decides (Pairs r w c i) q → Decides (Sound (lent p r w) c) q
-      judge_pairs y g = decides_same (λ q. sound_from (granted x e) (record { ruled = granted y g; pairs = q })) (λ s. (rest_of s).pairs)
+      pub judge_pairs : {f : Bool} → Decides (AllRuled p r c i) f → f ≡ true → {q : Bool} → Decides (Pairs r w c i) q → Decides (Sound (lent p r w) c) q
+      judge_pairs y g = decides_same (λ q. sound_from (x.yes e) (record { ruled = y.yes g; pairs = q })) (λ s. (rest_of s).pairs)
 
   module _ {f : Bool} (y : Decides (AllRuled p r c i) f) where
-    pub judge_unruled : not f ≡ true → Decides (Sound (lent p r w) c) false
-    judge_unruled g = decides_false (λ s. refused y g (rest_of s).ruled)
+    pub judge_unruled : f ≡ false → Decides (Sound (lent p r w) c) f
+    judge_unruled g = rw g (decides_false (λ s. y.no g (rest_of s).ruled))
 
-    pub rising_ruled : not f ≡ false → Rising r i c.vertices
-    rising_ruled g = rising_from (granted y g)
+    pub rising_ruled : f ≡ true → Rising r i c.vertices
+    rising_ruled g = rising_from (y.yes g)
 
 pub ruleset judging = (run_from, judge_stale, judge_roots, judge_pairs, judge_unruled, rising_ruled)
 
@@ -110,23 +92,14 @@ module _ {p : List Float} {r w : List ℕ} {c : Counts} where
         half = record { midpoints = x.midpoints; later = x.later; bred = record { children = x.children; used = x.used }; parents = x.parents };
       }
 
-  module _ {o : Shape} (x : Shapes p r w c o) where
-    pub shape_runs : {i t : ℕ} → o ≡ Runs i t → Shapely p r w c i t
-    shape_runs {i} {t} e = x.runs i t e
+  module _ {o : Option Runs} (x : Shapes p r w c o) where
+    pub shape_runs : {s : Runs} → o ≡ Some s → Shapely p r w c s.initials s.roots
+    shape_runs {s} e = x.runs s.initials s.roots e
 
-    pub shape_not : o ≡ Not → Decides (Sound (lent p r w) c) false
+    pub shape_not : o ≡ None → Decides (Sound (lent p r w) c) false
     shape_not e = decides_false (λ s. x.not e s.initials s.roots (shapely_sound s))
 
-pub ruleset shapes = (shape_runs, shape_not)
-
--- ---- in lent memory
-
-module _ (rows memory : ℕ) where
-  pub memory_small : memory < 36382 → Decides (memory_for rows ≤ memory) false
-  memory_small h = decides_false (λ l. omega arith)
-
-  pub memory_tested : {n : ℕ} {r : Bool} → 36382 ≤ memory → n ≡ min most_rows rows → r ≡ leb (most_vertices + 4 * n) memory → Decides (memory_for rows ≤ memory) r
-  memory_tested {n} h e f = record { yes = λ y. let l = leb-true (most_vertices + 4 * n) memory (sym f ∙ y) in omega arith; no = λ y l. let g = leb-false (most_vertices + 4 * n) memory (sym f ∙ y) in omega arith }
+-- ---- the memory
 
 -- zeros over any length, so that none are written out
 pub enough_small : (rows n : ℕ) → n ≡ 60000 → rows ≤ 10000 → memory_for rows ≤ length (replicate {A = ℕ} n 0)
@@ -135,23 +108,6 @@ enough_small rows n e h = rw length-replicate (omega arith)
 pub enough_large : (rows n : ℕ) → n ≡ 420000 → memory_for rows ≤ length (replicate {A = ℕ} n 0)
 enough_large rows n e = rw length-replicate (omega arith)
 
--- enough for the index of pairs
-pub pairs_enough : (rows n : ℕ) → memory_for rows ≤ n → heads true + most_vertices ≤ n
-pairs_enough rows n h = let l : 16382 + 20000 ≤ n = omega arith in l
-
-pub pairs_wide : (n : ℕ) → 100000 ≤ n → heads false + most_vertices ≤ n
-pairs_wide n h = h
-
 -- enough for the index of opening
 pub roots_enough : {p : List Float} {r w : List ℕ} {c : Counts} {i t n : ℕ} → Shapely p r w c i t → memory_for c.rows ≤ n → most_vertices + 4 * t ≤ n
 roots_enough b h = omega (arith, b.begun.roots.within, (fitting_inside b.begun.fitting).few_rows)
-
-pub memory_enough : (rows memory : ℕ) {e : Bool} → Decides (memory_for rows ≤ memory) e → not e ≡ false → memory_for rows ≤ memory
-memory_enough rows memory x n = granted x n
-
-module _ {memory : ℕ} {p : List Float} {r w : List ℕ} {c : Counts} {e : Bool} (x : Decides (memory_for c.rows ≤ memory) e) where
-  pub memory_short : not e ≡ true → Decides (SoundIn memory (lent p r w) c) false
-  memory_short n = decides_false (λ s. refused x n s.enough)
-
-  pub memory_decides : not e ≡ false → {b : Bool} → Decides (Sound (lent p r w) c) b → Decides (SoundIn memory (lent p r w) c) b
-  memory_decides n d = decides_same (λ s. record { enough = granted x n; sound = s }) (λ s. s.sound) d

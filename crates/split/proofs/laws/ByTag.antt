@@ -17,8 +17,6 @@ module _ {A : Type 0} {p g : ℕ} (low new high : A) where
   pub above_tag : g ≤ p → (p ≡ g → ⊥) → by_tag p g low new high ≡ high
   above_tag h d = rw (le-ltb p g h, ne_eqb p g d)
 
-pub ruleset by_tag_rules = (below_tag, at_tag, above_tag)
-
 pub placewise_at : {A : Type 0} (f : ℕ → A) (p : ℕ) → p ≤ 3 → at (placewise f) p ≡ f p
 placewise_at f zero h = refl
 placewise_at f (suc zero) h = refl

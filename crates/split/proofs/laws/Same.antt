@@ -2,6 +2,7 @@
 use mathlib.Core.Path.{◌≡◌, refl, sym, ap, ◌∙◌}
 use mathlib.Core.Bool.{Bool, true, ◌&&◌}
 use Prim.Native.Nat.{ℕ}
+use Rattle.std.proofs.Math.Bool.{and_assoc}
 use borrow.Author.Tests.{eqb-true, eq-eqb}
 use lib.Dec.{eqb}
 use Rattle.split.specs.declared.row.Row.{Row}
@@ -59,3 +60,10 @@ same_self n = eq-eqb n n refl
 pub same_row_lem : (a b : Row) → childless a ≡ childless b → same_row a b ≡ true
 unfolding same_row same_corners
 same_row_lem a b e = ap (λ (r : Row). same_row r b) e ∙ simp same_self
+
+-- what `==` says of the row a with the first child of b
+pub compared : (a b k : Row) {r : Bool} → k ≡ with_child a b.child
+    → r ≡ (eqb k.v0 b.v0 && (eqb k.v1 b.v1 && (eqb k.v2 b.v2 && (eqb k.v3 b.v3 && (eqb k.tag b.tag && (eqb k.parent b.parent && (eqb k.child b.child && eqb k.depth b.depth)))))))
+    → r ≡ same_row a b
+unfolding same_row same_corners
+compared a b k e h = h ∙ rw e (simp (same_self, and_assoc))

@@ -12,15 +12,14 @@ use Rattle.forest.specs.Element.{Forest, Element, depth}
 use Rattle.forest.specs.Shallow.{Shallow}
 use Rattle.forest.specs.Union.{Either}
 use Rattle.forest.proofs.Theory.{forced_shallow}
-use Rattle.opening.specs.declared.answer.Opened.TheVariants as opened
+use Rattle.std.specs.Prelude.{Ok}
 use Rattle.sound.specs.Sound.{rows, row_of, Sound}
 use Rattle.sound.specs.Forest.{forest_of, colour_in, largest_in, element_of, SplitOf}
 use Rattle.sound.proofs.laws.Afresh.{root_depth, coloured}
 use Rattle.sound.proofs.laws.Elements.{root_element}
 use Rattle.sound.proofs.laws.Placed.{placed}
 use Rattle.run.specs.Demand.{MarkedIn}
-use Rattle.closure.specs.declared.answer.Refined.TheVariants as refined
-use Rattle.closure.specs.Refine.{Refines}
+use Rattle.closure.specs.Refine.{Refines, refined_to}
 use Rattle.closure.proofs.laws.Accepted.{accepted_sound, accepted_markable, accepted_demanded}
 use Rattle.closure.proofs.laws.Opened.{Unsplit}
 use Rattle.closure.proofs.laws.Taken.{sound_rows}
@@ -31,7 +30,7 @@ use Rattle.text.specs.Input.{Input}
 use Rattle.text.specs.Program.{opens, opened_tables}
 use Rattle.text.proofs.laws.Never.{opens_unsplit}
 
-module _ {t : Lent} {c : Counts} (u : Unsplit t c) {marks : List ℕ} {d : Counts} {n : ℕ} {t' : Lent} (x : Refines t c marks (refined.Done d n) t') where
+module _ {t : Lent} {c : Counts} (u : Unsplit t c) {marks : List ℕ} {d : Counts} {n : ℕ} {t' : Lent} (x : Refines t c marks (refined_to d n) t') where
   abbrev s : Sound t c
   s = u.sound
 
@@ -73,6 +72,6 @@ module _ {t : Lent} {c : Counts} (u : Unsplit t c) {marks : List ℕ} {d : Count
   once_levels k l = ((row_rounded later k l 1).1 (row_up_to_three k l), row_band later k l)
 
 -- what the program prints of an accepted call: level 0 for a root, and 1 for every other row (02, L1)
-pub printed_levels : (i : Input) {c d : Counts} {n : ℕ} {t' : Lent} → opens i ≡ opened.Done c → Refines (opened_tables i) c i.marks (refined.Done d n) t' → (k : ℕ) → k < d.rows
+pub printed_levels : (i : Input) {c d : Counts} {n : ℕ} {t' : Lent} → opens i ≡ Ok c → Refines (opened_tables i) c i.marks (refined_to d n) t' → (k : ℕ) → k < d.rows
     → (level_in (mesh_of t' d).rows k ≤ 1) × ((level_in (mesh_of t' d).rows k ≡ 0) ↔ ((row_of (mesh_of t' d) k).parent ≡ k))
 printed_levels i o x k h = let u = opens_unsplit i o in once_levels u x k (rw (sound_rows (accepted_sound u.sound x).sound) h)

@@ -4,51 +4,32 @@ use mathlib.Core.List.{List, ◌++◌, map}
 use mathlib.Core.Logic.{inl, inr}
 use Prim.Native.Nat.{ℕ, zero, suc, ◌+◌, ◌-◌, ◌*◌, ◌≤◌, ◌<◌}
 use native.Mathlib.Omega.{arith}
-use borrow.Author.Tests.{eq-eqb, ne_eqb}
 use lib.Ieee.{Float}
-use lib.ListN.{length, replicate, length-append, length-replicate, length-map}
+use lib.Seq.{take_at}
+use lib.ListN.{length, take, replicate, length-map}
 use Rattle.split.specs.declared.row.Row.{Row}
 use Rattle.tables.specs.declared.layout.Counts.{Counts}
 use Rattle.tables.specs.Layout.{room_of, sized}
-use Rattle.tables.specs.Mesh.{Lent, mesh_of, padded}
-use Rattle.tables.specs.Report.{done, refusal}
+use Rattle.tables.specs.Mesh.{Lent, mesh_of}
+use Rattle.tables.specs.Report.{done}
 use Rattle.opening.proofs.laws.Counting.{count_below}
 use Rattle.sound.specs.Check.{lent}
 use Rattle.closure.specs.declared.answer.Refined.{Refined}
-use Rattle.closure.specs.declared.answer.Refined.TheVariants as refined
 use Rattle.closure.specs.Refine.{Refines}
 use Rattle.closure.proofs.laws.Accepted.{accepted_sound, accepted_counted, accepted_points, accepted_records, accepted_rows}
-use Rattle.leaves.specs.declared.answer.Listed.{Listed}
-use Rattle.leaves.specs.declared.answer.Listed.TheVariants as listed
+use Rattle.std.specs.Prelude.{Result, Ok, Err}
+use Rattle.tables.specs.declared.refusal.Refusal.{Refusal}
 use Rattle.leaves.specs.Listing.{level_in, listing}
 use Rattle.leaves.specs.Lists.{Accepts, Lists, unsound, sound, short, fits}
 use Rattle.leaves.specs.Walk.{leaf_at}
-use Rattle.leaves.proofs.laws.Levels.{padded_at}
 use Rattle.leaves.proofs.laws.Promise.{done_same, done_never}
 use Rattle.leaves.proofs.laws.Sound.{sound_listable}
-use Rattle.text.specs.Output.{c_line, p_lines, l_lines, leaf_line, texts}
+use Rattle.text.specs.Output.{p_lines, l_lines, texts}
 use Rattle.text.specs.Putting.{Puts}
-use Rattle.text.specs.Printing.{PrintsMidpoints, PrintsLeaves}
+use Rattle.text.specs.Printing.{PrintsLeaves}
 use Rattle.text.specs.Program.{headline, leaf_lines, refined_text}
-use Rattle.text.specs.Working.{Held, Listable, Printable, Finishes}
+use Rattle.text.specs.Working.{Held, Listable, Printable, Finished, Finishes}
 use Rattle.text.proofs.laws.Putting.{puts_both}
-
--- ---- the C line
-
-pub head_line : {c : Counts} {splits a b d : ℕ} → a ≡ c.vertices → b ≡ c.rows → d ≡ splits → {o o' : List ℕ} {e : ℕ} → Puts 86 o 0 (c_line 0 a b d) o' e → Puts 86 o 0 (headline (done c splits)) o' e
-unfolding headline
-head_line ea eb ed x = rw (← ea, ← eb, ← ed) x
-
-module _ (number place : ℕ) {o o' : List ℕ} {e : ℕ} where
-  pub refusal_none : number ≡ 0 → Puts 86 o 0 (c_line 0 0 0 0) o' e → Puts 86 o 0 (headline (refusal number place)) o' e
-  unfolding headline
-  refusal_none q x = rw (eq-eqb number 0 q) x
-
-  pub refusal_line : (number ≡ 0 → ⊥) → {p : ℕ} → p ≡ place → Puts 86 o 0 (c_line number p 0 0) o' e → Puts 86 o 0 (headline (refusal number place)) o' e
-  unfolding headline
-  refusal_line q s x = rw (ne_eqb number 0 q, ← s) x
-
-pub ruleset headlines = (head_line, refusal_none, refusal_line)
 
 -- ---- how much there is of a mesh in tables of 512 vertices and 768 rows
 
@@ -77,10 +58,7 @@ unfolding texts
 texts_same f g zero s = refl
 texts_same f g (suc n) s = rw (texts, s n (omega arith), texts_same f g n (λ j h. s j (omega arith)))
 
-padded_size : (n : ℕ) (l : List ℕ) → length l ≤ n → length (padded n 0 l) ≡ n
-padded_size n l h = length-append l (replicate (n - length l) 0) ∙ rw (length-replicate {A = ℕ} (n - length l) 0) (omega (arith, h))
-
-module _ {p : List Float} {r w : List ℕ} {c : Counts} {at : ℕ} (x : Listable (lent p r w) c at) {l v : List ℕ} {a : Listed} {l' v' : List ℕ} (o : Lists (lent p r w) c l v a l' v') (el : length l ≡ 768) (ev : length v ≡ 768) where
+module _ {p : List Float} {r w : List ℕ} {c : Counts} {at : ℕ} (x : Listable (lent p r w) c at) {l v : List ℕ} {a : Result ℕ Refusal} {l' v' : List ℕ} (o : Lists (lent p r w) c l v a l' v') (el : length l ≡ 768) (ev : length v ≡ 768) where
   abbrev W : List Row
   W = (mesh_of (lent p r w) c).rows
 
@@ -100,67 +78,49 @@ module _ {p : List Float} {r w : List ℕ} {c : Counts} {at : ℕ} (x : Listable
       go (sound s (fits n y)) = y
 
   -- so the listing does not refuse
-  pub listed_not : {n q : ℕ} → a ≡ listed.Refused n q → {k i j : ℕ} {b d f : List ℕ} → Puts k b i d f j
+  pub listed_not : {q : Refusal} → a ≡ Err q → {k i j : ℕ} {b d f : List ℕ} → Puts k b i d f j
   listed_not z = done_never (sym z ∙ got.answers)
 
-  module _ {n : ℕ} (z : a ≡ listed.Done n) where
+  module _ {n : ℕ} (z : a ≡ Ok n) where
     all : n ≡ length L
     all = done_same (sym z ∙ got.answers)
 
-    list_is : l' ≡ padded 768 0 L
-    list_is = rw (← el) got.list_is
-
-    levels_are : v' ≡ padded 768 0 (map (level_in W) L)
-    levels_are = rw (← ev) got.levels_is
+    list_is : take n l' ≡ L
+    list_is = rw (all, got.list_is) (take_at L (replicate (length l - length L) 0) (length L) refl)
 
     level_count : length (map (level_in W) L) ≡ length L
     level_count = length-map L (level_in W)
 
-    pub listed_ready : PrintsLeaves n l' v' at
-    listed_ready = record {
-      listed = rw list_is (omega (arith, padded_size 768 L few, all, few));
-      levelled = rw levels_are (omega (arith, padded_size 768 (map (level_in W) L) (omega (arith, level_count, few)), all, few));
-      fits = omega (arith, x.room.fits, all, few);
-    }
+    levels_are : take n v' ≡ map (level_in W) L
+    levels_are = rw (all, got.levels_is) (take_at (map (level_in W) L) (replicate (length v - length (map (level_in W) L)) 0) (length L) level_count)
 
-    same_lines : l_lines w l' v' n ≡ leaf_lines (lent p r w) c
-    unfolding l_lines leaf_lines
-    same_lines =
-        rw all (texts_same (leaf_line w l' v') (leaf_line w L (map (level_in W) L)) (length L)
-        (λ j h. rw (list_is, levels_are, padded_at 768 L j h, padded_at 768 (map (level_in W) L) j (omega (arith, h, level_count)))))
+    pub listed_ready : PrintsLeaves (take n l') (take n v') at
+    listed_ready = record { levelled = rw (list_is, levels_are) level_count; fits = rw list_is (omega (arith, x.room.fits, few)) }
 
-    pub listed_put : {o' o₂ : List ℕ} {e : ℕ} → Puts (191 * n) o' at (l_lines w l' v' n) o₂ e → Puts 146688 o' at (leaf_lines (lent p r w) c) o₂ e
-    listed_put y = let q : Puts (191 * n) _ at (leaf_lines (lent p r w) c) _ _ = rw same_lines at y in record { stores = q.stores; ends = q.ends; few = omega (arith, q.few, all, few) }
+    pub listed_put : {o' o₂ : List ℕ} {e : ℕ} → Puts (191 * length (take n l')) o' at (l_lines w (take n l') (take n v') (length (take n l'))) o₂ e → Puts 146688 o' at (leaf_lines (lent p r w) c) o₂ e
+    unfolding leaf_lines
+    listed_put y = let q : Puts (191 * length L) _ at (l_lines w L (map (level_in W) L) (length L)) _ _ = rw (list_is, levels_are) at y in record { stores = q.stores; ends = q.ends; few = omega (arith, q.few, few) }
 
 pub ruleset listing_laws = (listed_not, listed_ready, listed_put)
 
 -- ---- the whole mesh
 
-module _ {p : List Float} {r w : List ℕ} {c : Counts} {initial : ℕ} (x : Printable (lent p r w) c initial) {head : List ℕ} {o o₁ : List ℕ} {e : ℕ} (y : Puts 86 o 0 head o₁ e) where
-  pub mesh_midpoints : PrintsMidpoints initial c.vertices e
-  mesh_midpoints = record { within = x.initials; fits = omega (arith, vertices_few x.held, y.ends, y.few) }
-
+module _ {p : List Float} {r w : List ℕ} {c : Counts} {initial : ℕ} (x : Printable (lent p r w) c initial) {head : List ℕ} {o o₁ : List ℕ} {at e : ℕ} (empty : at ≡ 0) (y : Puts 86 o at head o₁ e) where
   module _ {o₂ : List ℕ} {f : ℕ} (z : Puts (116 * (c.vertices - initial)) o₁ e (p_lines p r initial c.vertices) o₂ f) where
-    pub mesh_listable : Listable (lent p r w) c f
-    mesh_listable = record { held = x.held; room = record { fits = omega (arith, vertices_few x.held, y.ends, y.few, z.ends, z.few) } }
-
-    pub mesh_put : (splits : ℕ) → head ≡ headline (done c splits) → {o₃ : List ℕ} {g : ℕ} → Puts 146688 o₂ f (leaf_lines (lent p r w) c) o₃ g → Puts 262144 o 0 (refined_text initial (refined.Done c splits) (lent p r w)) o₃ g
+    pub mesh_put : (v : Refined) → v.counts ≡ c → head ≡ headline (done v.counts v.splits) → {o₃ : List ℕ} {g : ℕ} → Puts 146688 o₂ f (leaf_lines (lent p r w) c) o₃ g → Puts 262144 o at (refined_text initial (Ok v) (lent p r w)) o₃ g
     unfolding refined_text
-    mesh_put splits s q = let a : Puts (86 + 116 * (c.vertices - initial) + 146688) o 0 (headline (done c splits) ++ p_lines p r initial c.vertices ++ leaf_lines (lent p r w) c) _ _ = rw s at (puts_both (puts_both y z) q) in record { stores = a.stores; ends = a.ends; few = omega (arith, a.few, vertices_few x.held) }
-
-pub ruleset meshes = (mesh_midpoints, mesh_listable, mesh_put)
+    mesh_put v same s q =
+        let a : Puts (86 + 116 * (c.vertices - initial) + 146688) o at (head ++ p_lines p r initial c.vertices ++ leaf_lines (lent p r w) c) _ _ = puts_both (puts_both y z) q in
+        rw (← s, same) (record { stores = a.stores; ends = a.ends; few = omega (arith, a.few, vertices_few x.held) })
 
 -- ---- refining once
 
-module _ {t : Lent} {c : Counts} (h : Held t c) {marks : List ℕ} {a : Refined} {t' : Lent} (x : Refines t c marks a t') where
-  finish : (text : List ℕ) → text ≡ refined_text c.vertices a t' → {w : ℕ} → w ≤ 262144 → {o o' : List ℕ} {e : ℕ} → Puts w o 0 text o' e → Finishes t c marks o e o'
-  finish text q l y = record { text = text; refining = record { answer = a; after = t'; refines = x; prints = q }; puts = record { stores = y.stores; ends = y.ends; few = omega (arith, y.few, l) } }
-
-  module _ {d : Counts} {n : ℕ} (z : a ≡ refined.Done d n) where
-    done_refines : Refines t c marks (refined.Done d n) t'
+module _ {t : Lent} {c : Counts} (h : Held t c) {marks : List ℕ} {a : Result Refined Refusal} {t' : Lent} (x : Refines t c marks a t') where
+  module _ {w : Refined} (z : a ≡ Ok w) where
+    done_refines : Refines t c marks (Ok w) t'
     done_refines = rw z at x
 
-    pub once_ready : Printable t' d c.vertices
+    pub once_ready : Printable t' w.counts c.vertices
     once_ready = record {
       held = record {
         sound = (accepted_sound h.sound done_refines).sound;
@@ -171,11 +131,17 @@ module _ {t : Lent} {c : Counts} (h : Held t c) {marks : List ℕ} {a : Refined}
       initials = (accepted_counted h.sound done_refines).vertices;
     }
 
-    pub once_done : {o o' : List ℕ} {e : ℕ} → Puts 262144 o 0 (refined_text c.vertices (refined.Done d n) t') o' e → Finishes t c marks o e o'
-    once_done y = finish (refined_text c.vertices (refined.Done d n) t') (rw z) (omega arith) y
+    pub once_done : {o o' : List ℕ} {e : ℕ} → Puts 262144 o 0 (refined_text c.vertices (Ok w) t') o' e → Finishes t c marks o (Ok e) o'
+    once_done {o} {o'} {e} y = record { done = λ e' q. let s : e ≡ e' = cc in rw (← s) finished; refuses = λ q z. let n : ◌≡◌ {A = ℕ} 0 1 = cc in absurd (omega (arith, n)) }
+      where
+        finished : Finished t c marks o e o'
+        finished = record { text = refined_text c.vertices (Ok w) t'; refining = record { answer = Ok w; after = t'; refines = done_refines; prints = refl }; puts = y }
 
-  pub once_refused : {n p : ℕ} → a ≡ refined.Refused n p → {o o' : List ℕ} {e : ℕ} → Puts 86 o 0 (headline (refusal n p)) o' e → Finishes t c marks o e o'
+  pub once_refused : {q : Refusal} → a ≡ Err q → {r : Result ℕ Refusal} → r ≡ Err q → {o : List ℕ} → Finishes t c marks o r o
   unfolding refined_text
-  once_refused {n} {p} z y = finish (headline (refusal n p)) (rw z) (omega arith) y
+  once_refused {q} z e = record {
+    done = λ k s. let n : ◌≡◌ {A = ℕ} 0 1 = cc in absurd (omega (arith, n));
+    refuses = λ p s. let k : q ≡ p = cc in (refl, record { answer = Err q; after = t'; refines = rw z at x; prints = rw k });
+  }
 
 pub ruleset once = (once_ready, once_done, once_refused)

@@ -11,17 +11,13 @@ use Rattle.tables.specs.declared.layout.Counts.{Counts}
 use Rattle.tables.specs.Layout.{started}
 use Rattle.tables.specs.Mesh.{Lent, mesh_of}
 use Rattle.tables.specs.Report.{Report, refusal, done}
-use Rattle.intake.specs.declared.answer.Verdict.{Verdict}
-use Rattle.intake.specs.declared.answer.Verdict.TheVariants as verdict
-use Rattle.opening.specs.declared.answer.Opened.{Opened}
-use Rattle.opening.specs.declared.answer.Opened.TheVariants as opened
+use Rattle.intake.specs.Verdict.{Verdict}
 use Rattle.opening.specs.Opening.{judged, answer}
 use Rattle.opening.proofs.laws.Refusals.{judged_number}
 use Rattle.sound.specs.Sound.{Sound}
 use Rattle.sound.proofs.laws.Afresh.{root_depth}
 use Rattle.run.specs.Demand.{MarkedDeep}
 use Rattle.closure.specs.declared.answer.Refined.{Refined}
-use Rattle.closure.specs.declared.answer.Refined.TheVariants as refined
 use Rattle.closure.specs.Refine as closure
 use Rattle.closure.specs.Refine.{Refines}
 use Rattle.closure.proofs.laws.Taken.{sound_rows}
@@ -33,8 +29,13 @@ use Rattle.fields.specs.Digits.{number_of, decimal}
 use Rattle.fields.specs.Field.{tabbed, field_of}
 use Rattle.fields.specs.Line.{line_of}
 use Rattle.fields.proofs.Inverse.{bare, more, parts_split, free_spelled, number_decimal}
-use Rattle.fields.proofs.laws.Lines.{is_same}
-use Rattle.text.specs.Input.{Input, input, over, Taken, taken, fault, takes, Reading, all, refused, read_from, read_all}
+use Rattle.fields.proofs.laws.Reading.{is_same}
+use Rattle.std.specs.Prelude.{Result, Ok, Err}
+use Rattle.tables.specs.declared.refusal.Cause.{Cause}
+use Rattle.tables.specs.declared.refusal.Cause.TheVariants as cause
+use Rattle.tables.specs.declared.refusal.Refusal.{Refusal}
+use Rattle.tables.specs.Refusal.{number_of as number_in, refusal_at, refused}
+use Rattle.text.specs.Input.{Input, input, over, takes, read_from, read_all}
 use Rattle.text.specs.Output.{c_line, p_lines}
 use Rattle.text.specs.Program.{headline, leaf_lines, refined_text, Refining, opens, opened_tables, Outcome, Answer, Program}
 use Rattle.text.proofs.laws.Loop.{read_taken, read_fault}
@@ -95,72 +96,75 @@ thirteen = record { few = omega arith; nine = λ e. omega (arith, e); eleven = �
 
 -- ---- reading: 12 and 13
 
-fault_is : {m n : ℕ} → fault m ≡ fault n → m ≡ n
-fault_is e = cc
+cause_is : {c d : Cause} → ◌≡◌ {A = Result Input Cause} (Err c) (Err d) → Comes (number_in c) → Comes (number_in d)
+cause_is {c} {d} e k = let s : c ≡ d = cc in comes_is (ap number_in s) k
 
-fault_taken : {X : Type 0} {i : Input} {n : ℕ} → taken i ≡ fault n → X
-fault_taken e = let z : ◌≡◌ {A = ℕ} 0 1 = cc in absurd (omega arith)
+taken_fault : {X : Type 0} {i : Input} {c : Cause} → Ok i ≡ Err c → X
+taken_fault e = let z : ◌≡◌ {A = ℕ} 0 1 = cc in absurd (omega arith)
 
-cond_fault : (s t : Bool) (j : Input) {n : ℕ} → cond s (cond t (fault 13) (taken j)) (fault 12) ≡ fault n → Comes n
-cond_fault true true j e = comes_is (fault_is e) thirteen
-cond_fault true false j e = fault_taken e
-cond_fault false t j e = comes_is (fault_is e) twelve
+cond_fault : (s t : Bool) (j : Input) {c : Cause} → cond s (cond t (Err cause.Lines) (Ok j)) (Err cause.Line) ≡ Err c → Comes (number_in c)
+cond_fault true true j e = cause_is e thirteen
+cond_fault true false j e = taken_fault e
+cond_fault false t j e = cause_is e twelve
 
-takes_fault : (i : Input) (l : Line) {n : ℕ} → takes i l ≡ fault n → Comes n
+takes_fault : (i : Input) (l : Line) {c : Cause} → takes i l ≡ Err c → Comes (number_in c)
 unfolding takes
 takes_fault i (line.Vertex x y z) e =
     cond_fault (eqb (length i.elements + length i.marks) 0) (over 3 (length i.coordinates) 768) (input (i.coordinates ++ (x ∷ y ∷ z ∷ [])) i.elements i.marks) e
 takes_fault i (line.Element a b c d) e = cond_fault (eqb (length i.marks) 0) (over 4 (length i.elements) 1024) (input i.coordinates (i.elements ++ (a ∷ b ∷ c ∷ d ∷ [])) i.marks) e
 takes_fault i (line.Mark r) e = cond_fault true (over 1 (length i.marks) 256) (input i.coordinates i.elements (i.marks ++ (r ∷ []))) e
-takes_fault i (line.Refused p) e = comes_is (fault_is e) twelve
+takes_fault i (line.Refused p) e = cause_is e twelve
 
-refused_is : {m n p q : ℕ} → refused m p ≡ refused n q → m ≡ n
-refused_is e = cc
+refused_is : {c : Cause} {k : ℕ} {r : Refusal} → refused {A = Input} c k ≡ Err r → Comes (number_in c) → Comes (number_in r.cause)
+refused_is {c} {k} {r} e x = let s : refusal_at c k ≡ r = cc in comes_is (ap (λ (q : Refusal). number_in q.cause) s) x
 
-refused_all : {X : Type 0} {i : Input} {n p : ℕ} → all i ≡ refused n p → X
-refused_all e = let z : ◌≡◌ {A = ℕ} 0 1 = cc in absurd (omega arith)
+all_refused : {X : Type 0} {i : Input} {r : Refusal} → Ok i ≡ Err r → X
+all_refused e = let z : ◌≡◌ {A = ℕ} 0 1 = cc in absurd (omega arith)
 
-read_number : (ps : List (List ℕ)) (i : Input) (k : ℕ) {n p : ℕ} → read_from i k ps ≡ refused n p → Comes n
+read_number : (ps : List (List ℕ)) (i : Input) (k : ℕ) {r : Refusal} → read_from i k ps ≡ Err r → Comes (number_in r.cause)
 unfolding read_from
-read_number [] i k e = refused_all e
-read_number (l ∷ []) i k {n} {p} e = go (eqb (length l) 0) e
+read_number [] i k e = all_refused e
+read_number (l ∷ []) i k {r} e = go (eqb (length l) 0) e
   where
-    go : (t : Bool) → cond t (all i) (refused 12 k) ≡ refused n p → Comes n
-    go true e = refused_all e
-    go false e = comes_is (refused_is e) twelve
-read_number (l ∷ q ∷ ps) i k {n} {p} e = go (λ j f. read_number (q ∷ ps) j (suc k) f) (takes i (line_of l k)) refl
+    go : (t : Bool) → cond t (Ok i) (refused cause.Line k) ≡ Err r → Comes (number_in r.cause)
+    go true e = all_refused e
+    go false e = refused_is e twelve
+read_number (l ∷ q ∷ ps) i k {r} e = go (λ j f. read_number (q ∷ ps) j (suc k) f) (takes i (line_of l k)) refl
   where
-    go : ((j : Input) → read_from j (suc k) (q ∷ ps) ≡ refused n p → Comes n) → (t : Taken) → takes i (line_of l k) ≡ t → Comes n
-    go r (taken j) f = r j (sym (read_taken i k l (q ∷ ps) (omega arith) j f) ∙ e)
-    go r (fault m) f = comes_is (refused_is (sym (read_fault i k l (q ∷ ps) (omega arith) m f) ∙ e)) (takes_fault i (line_of l k) f)
+    go : ((j : Input) → read_from j (suc k) (q ∷ ps) ≡ Err r → Comes (number_in r.cause)) → (t : Result Input Cause) → takes i (line_of l k) ≡ t → Comes (number_in r.cause)
+    go f (Ok j) g = f j (sym (read_taken i k l (q ∷ ps) (omega arith) j g) ∙ e)
+    go f (Err c) g = refused_is (sym (read_fault i k l (q ∷ ps) (omega arith) c g) ∙ e) (takes_fault i (line_of l k) g)
 
 -- ---- opening: 1 to 8
 
-opens_number : (i : Input) {n p : ℕ} → opens i ≡ opened.Refused n p → Comes n
-unfolding opens
-opens_number i {n} {p} = go (judged i.coordinates i.elements 1536 1024 6144) refl
-  where
-    go : (v : Verdict) → judged i.coordinates i.elements 1536 1024 6144 ≡ v → answer v (length i.coordinates / 3) (length i.elements / 4) ≡ opened.Refused n p → Comes n
-    go (verdict.Refused m q) f e = let s : m ≡ n = cc in comes_is s (comes_low (judged_number i.coordinates i.elements 1536 1024 6144 m q f).1)
-    go verdict.Passed f e = let z : ◌≡◌ {A = ℕ} 0 1 = cc in absurd (omega arith)
+counted_not : {X : Type 0} {r : Refusal} {c : Counts} → ◌≡◌ {A = Result Counts Refusal} (Err r) (Ok c) → X
+counted_not e = let z : ◌≡◌ {A = ℕ} 0 1 = cc in absurd (omega arith)
 
-pub opens_unsplit : (i : Input) {c : Counts} → opens i ≡ opened.Done c → Unsplit (opened_tables i) c
+opens_number : (i : Input) {r : Refusal} → opens i ≡ Err r → Comes (number_in r.cause)
+unfolding opens
+opens_number i {r} = go (judged i.coordinates i.elements 1536 1024 6144) refl
+  where
+    go : (v : Verdict) → judged i.coordinates i.elements 1536 1024 6144 ≡ v → answer v (length i.coordinates / 3) (length i.elements / 4) ≡ Err r → Comes (number_in r.cause)
+    go (Err q) f e = let s : q ≡ r = cc in comes_is (ap (λ (x : Refusal). number_in x.cause) s) (comes_low (judged_number i.coordinates i.elements 1536 1024 6144 q.cause q.place f).1)
+    go (Ok u) f e = counted_not (sym e)
+
+pub opens_unsplit : (i : Input) {c : Counts} → opens i ≡ Ok c → Unsplit (opened_tables i) c
 unfolding opens opened_tables
 opens_unsplit i {c} = go (judged i.coordinates i.elements 1536 1024 6144) refl
   where
-    go : (v : Verdict) → judged i.coordinates i.elements 1536 1024 6144 ≡ v → answer v (length i.coordinates / 3) (length i.elements / 4) ≡ opened.Done c → Unsplit (opened_tables i) c
-    go (verdict.Refused m q) f e = let z : ◌≡◌ {A = ℕ} 0 1 = cc in absurd (omega arith)
-    go verdict.Passed f e =
+    go : (v : Verdict) → judged i.coordinates i.elements 1536 1024 6144 ≡ v → answer v (length i.coordinates / 3) (length i.elements / 4) ≡ Ok c → Unsplit (opened_tables i) c
+    go (Err q) f e = counted_not e
+    go (Ok u) f e =
         let s : started (length i.coordinates / 3) (length i.elements / 4) ≡ c = cc in
         subst (λ (d : Counts). Unsplit (opened_tables i) d) s (laid_unsplit i.coordinates i.elements 1536 1024 6144 f)
 
-pub opens_rows : (i : Input) {c : Counts} → opens i ≡ opened.Done c → c.rows ≡ length i.elements / 4
+pub opens_rows : (i : Input) {c : Counts} → opens i ≡ Ok c → c.rows ≡ length i.elements / 4
 unfolding opens
 opens_rows i {c} = go (judged i.coordinates i.elements 1536 1024 6144)
   where
-    go : (v : Verdict) → answer v (length i.coordinates / 3) (length i.elements / 4) ≡ opened.Done c → c.rows ≡ length i.elements / 4
-    go (verdict.Refused m q) e = let z : ◌≡◌ {A = ℕ} 0 1 = cc in absurd (omega arith)
-    go verdict.Passed e =
+    go : (v : Verdict) → answer v (length i.coordinates / 3) (length i.elements / 4) ≡ Ok c → c.rows ≡ length i.elements / 4
+    go (Err q) e = counted_not e
+    go (Ok u) e =
         let s : started (length i.coordinates / 3) (length i.elements / 4) ≡ c = cc in
         sym (ap (λ (d : Counts). d.rows) s)
 
@@ -174,7 +178,7 @@ module _ {t : Lent} {c : Counts} (u : Unsplit t c) (marks : List ℕ) where
   unsplit_shallow : MarkedDeep (mesh_of t c) marks → ⊥
   unsplit_shallow d = omega (arith, d.deep, root_depth s.grown d.row (rw (u.roots_are, ← sound_rows s) d.there))
 
-  unsplit_number : {r : Refined} {t' : Lent} → Refines t c marks r t' → Comes (closure.reported r).number
+  unsplit_number : {r : Result Refined Refusal} {t' : Lent} → Refines t c marks r t' → Comes (closure.reported r).number
   unsplit_number {r} {t'} x = go x
     where
       go : Refines t c marks r t' → Comes (closure.reported r).number
@@ -185,10 +189,10 @@ module _ {t : Lent} {c : Counts} (u : Unsplit t c) (marks : List ℕ) where
       go (closure.sound s' (closure.present e (closure.shallow n (closure.fits o y)))) = rw y.reports (comes_low (omega arith))
 
 -- opened tables are never refused by 9 or 11
-pub opened_never : (i : Input) {c : Counts} → opens i ≡ opened.Done c → {marks : List ℕ} {r : Refined} {t' : Lent} → Refines (opened_tables i) c marks r t' → (p : ℕ) → (r ≡ refined.Refused 9 p → ⊥) × (r ≡ refined.Refused 11 p → ⊥)
+pub opened_never : (i : Input) {c : Counts} → opens i ≡ Ok c → {marks : List ℕ} {r : Result Refined Refusal} {t' : Lent} → Refines (opened_tables i) c marks r t' → (p : ℕ) → (r ≡ refused cause.Unsound p → ⊥) × (r ≡ refused cause.Depth p → ⊥)
 opened_never i o {marks} {r} x p =
     let c = unsplit_number (opens_unsplit i o) marks x in
-    (λ e. c.nine (ap (λ (a : Refined). (closure.reported a).number) e), λ e. c.eleven (ap (λ (a : Refined). (closure.reported a).number) e))
+    (λ e. c.nine (ap (λ (a : Result Refined Refusal). (closure.reported a).number) e), λ e. c.eleven (ap (λ (a : Result Refined Refusal). (closure.reported a).number) e))
 
 -- ---- the texts
 
@@ -204,22 +208,22 @@ refining_answered : {t : Lent} {c : Counts} {marks text : List ℕ} → Unsplit 
 unfolding refined_text
 refining_answered {t} {c} {marks} {text} u x = go x.answer (unsplit_number u marks x.refines) x.prints
   where
-    go : (r : Refined) → Comes (closure.reported r).number → text ≡ refined_text c.vertices r x.after → Answered text
-    go (refined.Refused n p) k e = headline_answered (refusal n p) e k
-    go (refined.Done d n) k e = record { number = 0; begins = rw e (begins_more (leaf_lines x.after d) (begins_more (p_lines x.after.points x.after.records c.vertices d.vertices) (headline_begins (done d n)))); comes = k }
+    go : (r : Result Refined Refusal) → Comes (closure.reported r).number → text ≡ refined_text c.vertices r x.after → Answered text
+    go (Err r) k e = headline_answered (refusal (number_in r.cause) r.place) e k
+    go (Ok r) k e = record { number = 0; begins = rw e (begins_more (leaf_lines x.after r.counts) (begins_more (p_lines x.after.points x.after.records c.vertices r.counts.vertices) (headline_begins (done r.counts r.splits)))); comes = k }
 
-answered : (r : Reading) {text : List ℕ} → ((n p : ℕ) → r ≡ refused n p → Comes n) → Answer r text → Answered text
-answered (refused n p) c x = headline_answered (refusal n p) x (c n p refl)
-answered (all i) {text} c x = go (opens i) refl x
+answered : (r : Result Input Refusal) {text : List ℕ} → ((q : Refusal) → r ≡ Err q → Comes (number_in q.cause)) → Answer r text → Answered text
+answered (Err r) c x = headline_answered (refusal (number_in r.cause) r.place) x (c r refl)
+answered (Ok i) {text} c x = go (opens i) refl x
   where
-    go : (o : Opened) → opens i ≡ o → Outcome o i text → Answered text
-    go (opened.Refused n p) e x = headline_answered (refusal n p) x (opens_number i e)
-    go (opened.Done c) e x = refining_answered (opens_unsplit i e) x
+    go : (o : Result Counts Refusal) → opens i ≡ o → Outcome o i text → Answered text
+    go (Err r) e x = headline_answered (refusal (number_in r.cause) r.place) x (opens_number i e)
+    go (Ok c) e x = refining_answered (opens_unsplit i e) x
 
 -- no text that the program writes is the C line of number 9 or of number 11 (01, "What comes back")
 pub program_never : {input text : List ℕ} → Program input text → (p : ℕ) → (text ≡ headline (refusal 9 p) → ⊥) × (text ≡ headline (refusal 11 p) → ⊥)
 program_never {input} {text} x p =
-    let a = answered (read_all input) (λ n q e. read_number _ _ _ e) x.answers in
+    let a = answered (read_all input) (λ q e. read_number _ _ _ e) x.answers in
     let few = a.comes.few in (
       λ e. a.comes.nine (begins_one (omega arith) (omega arith) a.begins (rw e (headline_begins (refusal 9 p)))),
       λ e. a.comes.eleven (begins_one (omega arith) (omega arith) a.begins (rw e (headline_begins (refusal 11 p)))),

@@ -8,8 +8,8 @@ use lib.Ieee.{Float}
 use lib.ListN.{length, get_or}
 use Rattle.tables.specs.Layout.{point_at, record_at, row_at}
 use Rattle.text.specs.Output.{p_line, l_line, leaf_line, p_lines, l_lines, texts, root_of}
-use Rattle.text.specs.Putting.{Room, Puts}
-use Rattle.text.specs.Printing.{PrintsMidpoints, PrintsLeaf, PrintsLeaves}
+use Rattle.text.specs.Putting.{Puts}
+use Rattle.text.specs.Printing.{PrintsMidpoints, PrintsLeaves}
 use Rattle.text.proofs.laws.Putting.{puts_both, puts_none}
 
 texts_none : (f : ℕ → List ℕ) → texts f 0 ≡ []
@@ -46,9 +46,6 @@ midpoints_start {p} {r} {from} {o = o} {at} x = record { after = omega arith; wi
 
 module _ {p : List Float} {r : List ℕ} {from to v : ℕ} {o : List ℕ} {at : ℕ} {o' : List ℕ} {e : ℕ} (x : Midpoints p r from to v o at o' e) where
   module _ (h : v < to) where
-    pub midpoints_room : Room 116 e
-    midpoints_room = record { fits = omega (arith, x.fits, x.after, x.printed.puts.ends, x.printed.puts.few, h) }
-
     pub midpoints_next : {o₂ : List ℕ} {g : ℕ} → Puts 116 o' e (p_line v (record_at r v) (point_at p v)) o₂ g → Midpoints p r from to (v + 1) o at o₂ g
     midpoints_next y =
         let z : v + 1 - from ≡ v - from + 1 = omega (arith, x.after) in
@@ -59,43 +56,23 @@ module _ {p : List Float} {r : List ℕ} {from to v : ℕ} {o : List ℕ} {at : 
   unfolding p_lines
   midpoints_all h = let z : v ≡ to = omega (arith, x.within) in rw z at x.printed.puts
 
-pub ruleset midpoints = (midpoints_start, midpoints_room, midpoints_next, midpoints_all)
+pub ruleset midpoints = (midpoints_start, midpoints_next, midpoints_all)
 
 -- ---- leaves
 
-pub leaf_line_lem : {j : ℕ} {list levels : List ℕ} {at : ℕ} → PrintsLeaf j list levels at → (w : List ℕ) {k : ℕ} → k ≡ get_or list j 0 → {root : ℕ} → root ≡ root_of w k → {o o' : List ℕ} {e : ℕ} → Puts 191 o at (l_line k root (get_or levels j 0) (row_at w k)) o' e → Puts 191 o at (leaf_line w list levels j) o' e
-leaf_line_lem x w q r y = rw (← q) (rw r at y)
-
-pub leaf_listed : {j : ℕ} {list levels : List ℕ} {at : ℕ} → PrintsLeaf j list levels at → j < length list
-leaf_listed x = x.listed
-
-pub leaf_levelled : {j : ℕ} {list levels : List ℕ} {at : ℕ} → PrintsLeaf j list levels at → j < length levels
-leaf_levelled x = x.levelled
-
-pub ruleset leaf = (leaf_line_lem, leaf_listed, leaf_levelled)
-
-pub record Leaves (w list levels : List ℕ) (n j : ℕ) (o : List ℕ) (at : ℕ) (o' : List ℕ) (e : ℕ) : Type 0 where
-  pub within : j ≤ n
-  pub ready : PrintsLeaves n list levels at
+pub record Leaves (w list levels : List ℕ) (j : ℕ) (o : List ℕ) (at : ℕ) (o' : List ℕ) (e : ℕ) : Type 0 where
+  pub within : j ≤ length list
+  pub ready : PrintsLeaves list levels at
   pub printed : Printed 191 (leaf_line w list levels) j o at o' e
 
-pub leaves_start : {w list levels : List ℕ} {n : ℕ} {o : List ℕ} {at : ℕ} → PrintsLeaves n list levels at → Leaves w list levels n 0 o at o at
+pub leaves_start : {w list levels : List ℕ} {o : List ℕ} {at : ℕ} → PrintsLeaves list levels at → Leaves w list levels 0 o at o at
 leaves_start {w} {list} {levels} {o = o} {at} x = record { within = omega arith; ready = x; printed = printed_none 191 (leaf_line w list levels) o at }
 
-module _ {w list levels : List ℕ} {n j : ℕ} {o : List ℕ} {at : ℕ} {o' : List ℕ} {e : ℕ} (x : Leaves w list levels n j o at o' e) where
-  module _ (h : j < n) where
-    pub leaves_room : PrintsLeaf j list levels e
-    leaves_room = record {
-      listed = omega (arith, h, x.ready.listed);
-      levelled = omega (arith, h, x.ready.levelled);
-      room = record { fits = omega (arith, x.ready.fits, x.printed.puts.ends, x.printed.puts.few, h) };
-    }
+module _ {w list levels : List ℕ} {j : ℕ} {o : List ℕ} {at : ℕ} {o' : List ℕ} {e : ℕ} (x : Leaves w list levels j o at o' e) where
+  module _ (h : j < length list) where
+    pub leaves_next : {k level : ℕ} → k ≡ get_or list j 0 → level ≡ get_or levels j 0 → {o₂ : List ℕ} {g : ℕ} → Puts 191 o' e (l_line k (root_of w k) level (row_at w k)) o₂ g → Leaves w list levels (j + 1) o at o₂ g
+    leaves_next q r y = record { within = omega (arith, h); ready = x.ready; printed = printed_next x.printed (rw (q, r) at y) }
 
-    pub leaves_next : {o₂ : List ℕ} {g : ℕ} → Puts 191 o' e (leaf_line w list levels j) o₂ g → Leaves w list levels n (j + 1) o at o₂ g
-    leaves_next y = record { within = omega (arith, h); ready = x.ready; printed = printed_next x.printed y }
-
-  pub leaves_all : n ≤ j → Puts (191 * n) o at (l_lines w list levels n) o' e
+  pub leaves_all : length list ≤ j → Puts (191 * length list) o at (l_lines w list levels (length list)) o' e
   unfolding l_lines
-  leaves_all h = let z : j ≡ n = omega (arith, x.within) in rw z at x.printed.puts
-
-pub ruleset leaves = (leaves_start, leaves_room, leaves_next, leaves_all)
+  leaves_all h = let z : j ≡ length list = omega (arith, x.within) in rw z at x.printed.puts

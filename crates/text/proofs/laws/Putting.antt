@@ -1,11 +1,13 @@
 -- Texts put into the buffer one after the other.
 use mathlib.Core.Path.{◌≡◌, refl, sym, ap, ◌∙◌}
 use mathlib.Core.List.{List, [], ◌∷◌, ◌++◌, append_assoc, append-nil}
-use Prim.Native.Nat.{ℕ, zero, suc, ◌+◌, ◌-◌, ◌/◌, ◌%◌, ◌≤◌, ◌<◌}
+use Prim.Native.Nat.{ℕ, zero, suc, ◌+◌, ◌-◌, ◌*◌, ◌/◌, ◌%◌, ◌≤◌, ◌<◌}
 use native.Mathlib.Nat.{mod-lt}
 use native.Mathlib.Omega.{arith}
 use borrow.Author.Tests.{lt-ltb, le-ltb, eq-eqb, ne_eqb}
-use lib.ListN.{set, length-append}
+use lib.ListN.{length, length-append, take, get_or}
+use mathlib.Core.List.{map}
+use Rattle.std.proofs.lemmas.List.{take_more, map-append}
 use Rattle.leaves.proofs.laws.Walking.{sets_append}
 use lib.Ieee.{binary64, to_bits}
 use Rattle.split.specs.declared.row.Row.{Row}
@@ -27,30 +29,7 @@ puts_both {o = o} {at = at} {a = a} {b} x y = record {
 pub puts_none : {o : List ℕ} {at : ℕ} → Puts 0 o at [] o at
 puts_none = record { stores = refl; ends = omega arith; few = omega arith }
 
--- what is left of the room
-pub room_after : {t w v at e : ℕ} {o a o' : List ℕ} → Room t at → Puts w o at a o' e → w + v ≤ t → Room v e
-room_after r p h = record { fits = omega (arith, r.fits, p.ends, p.few, h) }
-
-pub room_first : {t v at : ℕ} → Room t at → v ≤ t → Room v at
-room_first r h = record { fits = omega (arith, r.fits, h) }
-
 -- ---- digits
-
-pub one_put : {o : List ℕ} {at x : ℕ} → Puts 1 o at (x ∷ []) (set o at x) (at + 1)
-one_put = record { stores = refl; ends = omega arith; few = omega arith }
-
-pub put_there : {at : ℕ} → Room 1 at → at < 262144
-put_there r = omega (arith, r.fits)
-
-pub glyph_decimal : (d : ℕ) → d < 10 → 48 + d ≡ glyph d
-unfolding glyph
-glyph_decimal d h = rw (lt-ltb d 10 h)
-
-pub glyph_letter : (d : ℕ) → 10 ≤ d → 87 + d ≡ glyph d
-unfolding glyph
-glyph_letter d h = rw (le-ltb d 10 h)
-
-pub ruleset glyphs = (glyph_decimal, glyph_letter)
 
 spelled_none : (b s n : ℕ) → spelled b s 0 n ≡ []
 unfolding spelled
@@ -124,30 +103,37 @@ more fs g x y = rw (tabbed_append fs (g ∷ []), tabbed_one g) (puts_both x y)
 one_field : {w : ℕ} {o o' : List ℕ} {at e : ℕ} (g : List ℕ) → Puts w o at (9 ∷ g) o' e → Puts w o at (tabbed (g ∷ [])) o' e
 one_field g x = rw (tabbed_one g) x
 
+-- the first i numbers are put
+pub record Listing (ns : List ℕ) (i : ℕ) (o : List ℕ) (at : ℕ) (o' : List ℕ) (e : ℕ) : Type 0 where
+  pub room : Room (21 * length ns) at
+  pub within : i ≤ length ns
+  pub puts : Puts (21 * i) o at (tabbed (map decimal (take i ns))) o' e
+
+pub listing_start : {ns : List ℕ} {at : ℕ} → Room (21 * length ns) at → {o : List ℕ} → Listing ns 0 o at o at
+unfolding tabbed
+listing_start r = record { room = r; within = omega arith; puts = puts_none }
+
+module _ {ns : List ℕ} {i : ℕ} {o : List ℕ} {at : ℕ} {o' : List ℕ} {e : ℕ} (x : Listing ns i o at o' e) where
+  pub listing_next : i < length ns → {o₂ : List ℕ} {f : ℕ} → Puts 21 o' e (9 ∷ decimal (get_or ns i 0)) o₂ f → Listing ns (i + 1) o at o₂ f
+  listing_next h y =
+      let w : 21 * (i + 1) ≡ 21 * i + 21 = omega arith in
+      let t : map decimal (take (i + 1) ns) ≡ map decimal (take i ns) ++ (decimal (get_or ns i 0) ∷ []) = ap (map decimal) (take_more ns i 0 h) ∙ map-append decimal (take i ns) (get_or ns i 0 ∷ []) in
+      record { room = x.room; within = omega (arith, h); puts = rw (w, t) (more (map decimal (take i ns)) (decimal (get_or ns i 0)) x.puts y) }
+
+pub ruleset listing = (listing_start, listing_next)
+
 module _ {w : ℕ} (a b c : List ℕ) {o o₁ o₂ o₃ : List ℕ} {at e f g : ℕ} where
   pub three_put : Puts w o at (9 ∷ a) o₁ e → Puts w o₁ e (9 ∷ b) o₂ f → Puts w o₂ f (9 ∷ c) o₃ g → {t : ℕ} → w + w + w ≡ t → Puts t o at (tabbed (a ∷ b ∷ c ∷ [])) o₃ g
   three_put x y z q = rw (← q) (more (a ∷ b ∷ []) c (more (a ∷ []) b (one_field a x) y) z)
 
-pub four_put : (a b c d : List ℕ) {o o₁ o₂ : List ℕ} {at e f : ℕ} → Puts 63 o at (tabbed (a ∷ b ∷ c ∷ [])) o₁ e → Puts 21 o₁ e (9 ∷ d) o₂ f → Puts 84 o at (tabbed (a ∷ b ∷ c ∷ d ∷ [])) o₂ f
-four_put a b c d x y = more (a ∷ b ∷ c ∷ []) d x y
-
-pub number_put : {o o₁ o₂ t : List ℕ} {at e f : ℕ} → Puts 1 o at (9 ∷ []) o₁ e → Puts 20 o₁ e t o₂ f → Puts 21 o at (9 ∷ t) o₂ f
-number_put x y = puts_both x y
-
-pub float_put : {o o₁ o₂ : List ℕ} {at e f : ℕ} {m n : ℕ} → m ≡ n → Puts 1 o at (9 ∷ []) o₁ e → Puts 16 o₁ e (sixteen m) o₂ f → Puts 17 o at (9 ∷ sixteen n) o₂ f
-float_put q x y = rw (← q) (puts_both x y)
-
 -- ---- lines
 
-module _ (c : ℕ) {o o₁ : List ℕ} {at e : ℕ} (x : Puts 1 o at (c ∷ []) o₁ e) where
-  pub c_put : (fs : List (List ℕ)) {o₂ o₃ : List ℕ} {f g : ℕ} → Puts 84 o₁ e (tabbed fs) o₂ f → Puts 1 o₂ f (10 ∷ []) o₃ g → Puts 86 o at (written c fs) o₃ g
-  c_put fs y z = puts_both (puts_both x y) z
+module _ (c : ℕ) {o o₁ : List ℕ} {at e : ℕ} (x : Puts 1 o at (c ∷ []) o₁ e) (ns : List ℕ) {o₂ : List ℕ} {f : ℕ} (y : Puts (21 * length ns) o₁ e (tabbed (map decimal ns)) o₂ f) where
+  pub line_put : {o₃ : List ℕ} {g : ℕ} → Puts 1 o₂ f (10 ∷ []) o₃ g → {w : ℕ} → 21 * length ns + 2 ≡ w → Puts w o at (written c (map decimal ns)) o₃ g
+  line_put z q = let p = puts_both (puts_both x y) z in record { stores = p.stores; ends = p.ends; few = omega (arith, p.few, q) }
 
-  pub p_put : (fs gs : List (List ℕ)) {o₂ o₃ o₄ : List ℕ} {f g h : ℕ} → Puts 63 o₁ e (tabbed fs) o₂ f → Puts 51 o₂ f (tabbed gs) o₃ g → Puts 1 o₃ g (10 ∷ []) o₄ h → Puts 116 o at (written c (fs ++ gs)) o₄ h
-  p_put fs gs y z n = rw (tabbed_append fs gs) (puts_both (puts_both x (puts_both y z)) n)
-
-  pub l_put : (fs : List (List ℕ)) (t : List ℕ) (gs : List (List ℕ)) {o₂ o₃ o₄ o₅ : List ℕ} {f g h i : ℕ} → Puts 84 o₁ e (tabbed fs) o₂ f → Puts 21 o₂ f (9 ∷ t) o₃ g → Puts 84 o₃ g (tabbed gs) o₄ h → Puts 1 o₄ h (10 ∷ []) o₅ i → Puts 191 o at (written c (fs ++ (t ∷ []) ++ gs)) o₅ i
-  l_put fs t gs y w z n = rw (tabbed_append (fs ++ (t ∷ [])) gs) (puts_both (puts_both x (puts_both (more fs t y w) z)) n)
+  pub line_more : (gs : List (List ℕ)) {v : ℕ} {o₃ o₄ : List ℕ} {g h : ℕ} → Puts v o₂ f (tabbed gs) o₃ g → Puts 1 o₃ g (10 ∷ []) o₄ h → {w : ℕ} → 21 * length ns + v + 2 ≡ w → Puts w o at (written c (map decimal ns ++ gs)) o₄ h
+  line_more gs y' z q = let p = puts_both (puts_both x (puts_both y y')) z in rw (tabbed_append (map decimal ns) gs) (record { stores = p.stores; ends = p.ends; few = omega (arith, p.few, q) })
 
 -- ---- the root
 
@@ -195,16 +181,16 @@ pub ruleset climbing = (climb_start, climb_found, climb_next, climb_all)
 -- ---- each kind of line
 
 module _ {o o₁ : List ℕ} {at e : ℕ} where
-  pub c_line_lem : (a b c d : ℕ) → Puts 1 o at (67 ∷ []) o₁ e → {o₂ o₃ : List ℕ} {f g : ℕ} → Puts 84 o₁ e (tabbed (decimal a ∷ decimal b ∷ decimal c ∷ decimal d ∷ [])) o₂ f → Puts 1 o₂ f (10 ∷ []) o₃ g → Puts 86 o at (c_line a b c d) o₃ g
+  pub c_line_lem : (a b c d : ℕ) → Puts 1 o at (67 ∷ []) o₁ e → {o₂ o₃ : List ℕ} {f g : ℕ} → Puts 84 o₁ e (tabbed (map decimal (a ∷ b ∷ c ∷ d ∷ []))) o₂ f → Puts 1 o₂ f (10 ∷ []) o₃ g → Puts 86 o at (c_line a b c d) o₃ g
   unfolding c_line
-  c_line_lem a b c d x y z = c_put 67 x (decimal a ∷ decimal b ∷ decimal c ∷ decimal d ∷ []) y z
+  c_line_lem a b c d x y z = line_put 67 x (a ∷ b ∷ c ∷ d ∷ []) y z refl
 
-  module _ {v : ℕ} {r r' : Record} (er : r ≡ r') {p p' : Point} (ep : p ≡ p') {a b c : ℕ} (ea : a ≡ v) (eb : b ≡ r.first) (ec : c ≡ r.second) where
-    pub p_line_lem : Puts 1 o at (80 ∷ []) o₁ e → {o₂ o₃ o₄ : List ℕ} {f g h : ℕ} → Puts 63 o₁ e (tabbed (decimal a ∷ decimal b ∷ decimal c ∷ [])) o₂ f → Puts 51 o₂ f (tabbed (sixteen (to_bits binary64 p.x) ∷ sixteen (to_bits binary64 p.y) ∷ sixteen (to_bits binary64 p.z) ∷ [])) o₃ g → Puts 1 o₃ g (10 ∷ []) o₄ h → Puts 116 o at (p_line v r' p') o₄ h
+  module _ (v : ℕ) {r r' : Record} (er : r ≡ r') {p p' : Point} (ep : p ≡ p') {b c : ℕ} (eb : b ≡ r.first) (ec : c ≡ r.second) where
+    pub p_line_lem : Puts 1 o at (80 ∷ []) o₁ e → {o₂ o₃ o₄ : List ℕ} {f g h : ℕ} → Puts 63 o₁ e (tabbed (map decimal (v ∷ b ∷ c ∷ []))) o₂ f → Puts 51 o₂ f (tabbed (sixteen (to_bits binary64 p.x) ∷ sixteen (to_bits binary64 p.y) ∷ sixteen (to_bits binary64 p.z) ∷ [])) o₃ g → Puts 1 o₃ g (10 ∷ []) o₄ h → Puts 116 o at (p_line v r' p') o₄ h
     unfolding p_line
-    p_line_lem x y z n = rw (← er, ← ep, ← ea, ← eb, ← ec) (p_put 80 x (decimal a ∷ decimal b ∷ decimal c ∷ []) (sixteen (to_bits binary64 p.x) ∷ sixteen (to_bits binary64 p.y) ∷ sixteen (to_bits binary64 p.z) ∷ []) y z n)
+    p_line_lem x y z n = rw (← er, ← ep, ← eb, ← ec) (line_more 80 x (v ∷ b ∷ c ∷ []) y (sixteen (to_bits binary64 p.x) ∷ sixteen (to_bits binary64 p.y) ∷ sixteen (to_bits binary64 p.z) ∷ []) z n refl)
 
-  module _ {k root level : ℕ} {r r' : Row} (er : r ≡ r') {a b c d : ℕ} (ea : a ≡ k) (eb : b ≡ root) (ec : c ≡ r.depth) (ed : d ≡ level) {t : ℕ} (et : t ≡ r.tag) {i j m n : ℕ} (ei : i ≡ r.v0) (ej : j ≡ r.v1) (em : m ≡ r.v2) (en : n ≡ r.v3) where
-    pub l_line_lem : Puts 1 o at (76 ∷ []) o₁ e → {o₂ o₃ o₄ o₅ : List ℕ} {f g h z : ℕ} → Puts 84 o₁ e (tabbed (decimal a ∷ decimal b ∷ decimal c ∷ decimal d ∷ [])) o₂ f → Puts 21 o₂ f (9 ∷ decimal t) o₃ g → Puts 84 o₃ g (tabbed (decimal i ∷ decimal j ∷ decimal m ∷ decimal n ∷ [])) o₄ h → Puts 1 o₄ h (10 ∷ []) o₅ z → Puts 191 o at (l_line k root level r') o₅ z
+  module _ (k : ℕ) {root root' level : ℕ} (eb : root ≡ root') {r r' : Row} (er : r ≡ r') {c d : ℕ} (ec : c ≡ r.depth) (ed : d ≡ level) {t : ℕ} (et : t ≡ r.tag) {i j m n : ℕ} (ei : i ≡ r.v0) (ej : j ≡ r.v1) (em : m ≡ r.v2) (en : n ≡ r.v3) where
+    pub l_line_lem : Puts 1 o at (76 ∷ []) o₁ e → {o₂ o₃ : List ℕ} {f g : ℕ} → Puts 189 o₁ e (tabbed (map decimal (k ∷ root ∷ c ∷ d ∷ t ∷ i ∷ j ∷ m ∷ n ∷ []))) o₂ f → Puts 1 o₂ f (10 ∷ []) o₃ g → Puts 191 o at (l_line k root' level r') o₃ g
     unfolding l_line
-    l_line_lem x y w q l = rw (← er, ← ea, ← eb, ← ec, ← ed, ← et, ← ei, ← ej, ← em, ← en) (l_put 76 x (decimal a ∷ decimal b ∷ decimal c ∷ decimal d ∷ []) (decimal t) (decimal i ∷ decimal j ∷ decimal m ∷ decimal n ∷ []) y w q l)
+    l_line_lem x y z = rw (← eb, ← er, ← ec, ← ed, ← et, ← ei, ← ej, ← em, ← en) (line_put 76 x (k ∷ root ∷ c ∷ d ∷ t ∷ i ∷ j ∷ m ∷ n ∷ []) y z refl)

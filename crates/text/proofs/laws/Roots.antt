@@ -8,11 +8,10 @@ use Rattle.tables.specs.declared.layout.Counts.{Counts}
 use Rattle.tables.specs.Layout.{row_at}
 use Rattle.tables.specs.Mesh.{Lent, mesh_of}
 use Rattle.tables.specs.Report.{done}
-use Rattle.opening.specs.declared.answer.Opened.TheVariants as opened
+use Rattle.std.specs.Prelude.{Ok}
 use Rattle.sound.specs.Sound.{Sound}
 use Rattle.sound.proofs.laws.Placed.{placed}
-use Rattle.closure.specs.declared.answer.Refined.TheVariants as refined
-use Rattle.closure.specs.Refine.{Refines}
+use Rattle.closure.specs.Refine.{Refines, refined_to}
 use Rattle.closure.proofs.laws.Accepted.{accepted_sound}
 use Rattle.closure.proofs.laws.Cutting.{member_at}
 use Rattle.closure.proofs.laws.Taken.{sound_rows}
@@ -54,7 +53,7 @@ module _ {t : Lent} {c : Counts} (s : Sound t c) where
       (λ j h. rw (root_printed s (leaf j) (leaf_below j h), map_at (level_in W) (listing W) j h))
 
 -- what the program prints of an accepted call: its roots are the rows that opening made, one for each T line
-pub printed_rooted : (i : Input) {c d : Counts} {n : ℕ} {t' : Lent} → opens i ≡ opened.Done c → Refines (opened_tables i) c i.marks (refined.Done d n) t' → leaf_lines t' d ≡ rooted_lines t' d (length i.elements / 4)
+pub printed_rooted : (i : Input) {c d : Counts} {n : ℕ} {t' : Lent} → opens i ≡ Ok c → Refines (opened_tables i) c i.marks (refined_to d n) t' → leaf_lines t' d ≡ rooted_lines t' d (length i.elements / 4)
 printed_rooted i {c} {d} {n} {t'} o x =
     let u = opens_unsplit i o in
     let w = accepted_sound u.sound x in
@@ -62,7 +61,7 @@ printed_rooted i {c} {d} {n} {t'} o x =
     rw (← roots) (leaves_rooted w.sound)
 
 -- the same of the whole text that the program writes
-pub refining_rooted : (i : Input) {c d : Counts} {n : ℕ} {text : List ℕ} → opens i ≡ opened.Done c → (x : Refining (opened_tables i) c i.marks text) → x.answer ≡ refined.Done d n
+pub refining_rooted : (i : Input) {c d : Counts} {n : ℕ} {text : List ℕ} → opens i ≡ Ok c → (x : Refining (opened_tables i) c i.marks text) → x.answer ≡ refined_to d n
     → text ≡ headline (done d n) ++ p_lines x.after.points x.after.records c.vertices d.vertices ++ rooted_lines x.after d (length i.elements / 4)
 unfolding refined_text
 refining_rooted i o x e = x.prints ∙ rw (e, ← printed_rooted i o (rw e at x.refines))

@@ -5,4 +5,5 @@ use Rattle.run.specs.Run.{same_ends}
 use Rattle.closure.proofs.blocking.has_edge.Goals as goal
 
 pub returns : goal.returns
-returns c = c.same_ends.ensures ∙ ap (λ (e : Ends). same_ends e c.args.e) (c.edge.ensures ∙ ap edge_of c.read.ensures)
+unfolding same_ends
+returns c = c.eq.ensures ∙ ap (λ (e : Ends). same_ends e c.args.e) (c.edge.ensures ∙ ap edge_of c.read.ensures)

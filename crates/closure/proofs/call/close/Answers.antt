@@ -4,14 +4,14 @@ use Rattle.closure.proofs.call.close.Goals as goal
 pub index_rows-requires : goal.index_rows-requires
 index_rows-requires c = search closing
 
-pub refine_marks-step-requires : goal.refine_marks-step-requires
-refine_marks-step-requires c = search closing
+pub refine_marks-requires : goal.refine_marks-requires
+refine_marks-requires c = search closing
 
 pub finish-requires : goal.finish-requires
-finish-requires c = close_finish c.requires c.room-room.ensures c.refine_marks-step.ensures c.in-Done.is
+finish-requires c = close_finish c.requires c.room-room.ensures c.refine_marks.ensures c.in-Ok.is
 
-pub returns-in-Full : goal.returns-in-Full
-returns-in-Full c = close_full c.requires c.room-room.ensures c.refine_marks-step.ensures c.in-Full.is (c.undo.ensures.rows_after, c.undo.ensures.records_after)
+pub returns-in-Err : goal.returns-in-Err
+returns-in-Err c = close_full c.requires c.room-room.ensures c.refine_marks.ensures c.in-Err.is (c.undo.ensures.rows_after, c.undo.ensures.records_after) c.at.ensures
 
-pub returns-in-Done : goal.returns-in-Done
-returns-in-Done c = close_done c.requires c.room-room.ensures c.refine_marks-step.ensures c.in-Done.is c.finish.ensures
+pub returns-in-Ok : goal.returns-in-Ok
+returns-in-Ok c = close_done c.requires c.room-room.ensures c.refine_marks.ensures c.in-Ok.is c.finish.ensures

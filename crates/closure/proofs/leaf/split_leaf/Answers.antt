@@ -1,9 +1,6 @@
 use Rattle.closure.proofs.laws.Index.{halving}
 use Rattle.closure.proofs.leaf.split_leaf.Goals as goal
 
-pub bear-requires-clause-n_bound : goal.bear-requires-clause-n_bound
-bear-requires-clause-n_bound c = search halving
-
 pub bear-requires-clause-n_in_bounds : goal.bear-requires-clause-n_in_bounds
 bear-requires-clause-n_in_bounds c = search halving
 

@@ -11,6 +11,6 @@ pub returns-then-x-most : goal.returns-then-x-most
 unfolding le
 returns-then-x-most c = rw (usable_by_order, c.if-x-most.true)
 
-pub returns : goal.returns
+pub returns-else-x-most : goal.returns-else-x-most
 unfolding le
-returns c = rw (usable_by_order, c.if-x-most.false)
+returns-else-x-most c = rw (usable_by_order, c.if-x-most.false)

@@ -1,15 +1,12 @@
+use Rattle.std.proofs.Common.{rules}
 use Rattle.intake.specs.Causes.{wrong_lent}
 use Rattle.intake.proofs.laws.Tests.{tests}
 use Rattle.intake.proofs.lengths.lent_wrong.Goals as goal
 
-pub returns-then-points-ne0 : goal.returns-then-points-ne0
-unfolding wrong_lent
-returns-then-points-ne0 c = search tests
-
 pub returns-then-records-ne0 : goal.returns-then-records-ne0
 unfolding wrong_lent
-returns-then-records-ne0 c = search tests
+returns-then-records-ne0 c = search (tests, rules)
 
-pub returns : goal.returns
+pub returns-else-records-ne0 : goal.returns-else-records-ne0
 unfolding wrong_lent
-returns c = search tests
+returns-else-records-ne0 c = search (tests, rules)

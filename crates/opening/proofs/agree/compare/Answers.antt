@@ -1,50 +1,24 @@
 -- `opening::agree::compare`: where the tests pass, the table has the colours of Algorithm 2.
-use mathlib.Core.Path.{refl, sym, ◌∙◌}
-use Rattle.opening.specs.Scratch.{paint_length}
-use Rattle.opening.proofs.laws.Indexing.{zeros_clear, zeros_count}
-use borrow.Author.Tests.{not-true, not-false}
+use mathlib.Core.Path.{◌∙◌}
+use Rattle.tables.specs.Layout.{most_vertices}
+use Rattle.opening.proofs.laws.Indexing.{zeros_clear}
 use Rattle.opening.proofs.laws.Painted.{most_largest}
-use Rattle.opening.proofs.laws.Agree.{agreed_refused, agreed_records, agreed_rows}
+use Rattle.opening.proofs.laws.Agree.{no_err, agreed_refused, agreed_records, agreed_rows}
 use Rattle.opening.proofs.agree.compare.Goals as goal
 
-pub slice_bounds-judge_given-end : goal.slice_bounds-judge_given-end
-slice_bounds-judge_given-end c = zeros_count paint_length
+pub judge_given-requires-clause-clear : goal.judge_given-requires-clause-clear
+judge_given-requires-clause-clear c = zeros_clear most_vertices
 
-pub judge_given-verdict-requires-clause-clear : goal.judge_given-verdict-requires-clause-clear
-judge_given-verdict-requires-clause-clear c = zeros_clear paint_length refl
+pub returns-then-is_err : goal.returns-then-is_err
+returns-then-is_err c = agreed_refused _ _ _ _ c.judge_given.ensures c.is_err.ensures.negation c.if-is_err.true
 
-pub returns-in-Refused : goal.returns-in-Refused
-returns-in-Refused c = agreed_refused _ _ _ _ c.judge_given-verdict.ensures c.in-Refused.is
+pub returns-else-records_agree : goal.returns-else-records_agree
+returns-else-records_agree c = c.if-records_agree.false ∙ agreed_records _ _ _ _ c.judge_given.ensures (no_err c.is_err.ensures.negation c.if-is_err.false) c.records_agree.ensures c.if-records_agree.false
 
-pub slice_bounds-records_agree-end : goal.slice_bounds-records_agree-end
-slice_bounds-records_agree-end c = sym c.judge_given-verdict.ensures.size
+pub invariant_of-mesh : goal.invariant_of-mesh
+invariant_of-mesh c = record { plain = c.judge_given.ensures.plain (no_err c.is_err.ensures.negation c.if-is_err.false) }
 
-pub records_agree-requires-clause-paint_len : goal.records_agree-requires-clause-paint_len
-records_agree-requires-clause-paint_len c = c.judge_given-verdict.ensures.size
-
-pub records_agree-requires-clause-vertices_le_most_vertices : goal.records_agree-requires-clause-vertices_le_most_vertices
-records_agree-requires-clause-vertices_le_most_vertices c = (c.judge_given-verdict.ensures.plain c.in_default.is).most
-
-pub returns-then-not-records_agree : goal.returns-then-not-records_agree
-returns-then-not-records_agree c = agreed_records _ _ _ _ c.judge_given-verdict.ensures c.in_default.is c.records_agree.ensures (not-true c.records_agree.result c.if-not-records_agree.true-raw)
-
-pub slice_bounds-largest_colour-end : goal.slice_bounds-largest_colour-end
-slice_bounds-largest_colour-end c = sym c.judge_given-verdict.ensures.size
-
-pub largest_colour-n-requires-clause-paint_len : goal.largest_colour-n-requires-clause-paint_len
-largest_colour-n-requires-clause-paint_len c = c.judge_given-verdict.ensures.size
-
-pub largest_colour-n-requires-clause-vertices_le_most_vertices : goal.largest_colour-n-requires-clause-vertices_le_most_vertices
-largest_colour-n-requires-clause-vertices_le_most_vertices c = (c.judge_given-verdict.ensures.plain c.in_default.is).most
-
-pub slice_bounds-rows_agree-end : goal.slice_bounds-rows_agree-end
-slice_bounds-rows_agree-end c = sym c.judge_given-verdict.ensures.size
-
-pub rows_agree-requires-clause-plain : goal.rows_agree-requires-clause-plain
-rows_agree-requires-clause-plain c = c.judge_given-verdict.ensures.plain c.in_default.is
-
-pub rows_agree-requires-clause-paint_len : goal.rows_agree-requires-clause-paint_len
-rows_agree-requires-clause-paint_len c = c.judge_given-verdict.ensures.size
-
-pub returns : goal.returns
-returns c = agreed_rows _ _ _ _ c.judge_given-verdict.ensures c.in_default.is c.records_agree.ensures (not-false c.records_agree.result c.if-not-records_agree.false-raw) (c.largest_colour-n.ensures ∙ most_largest (c.judge_given-verdict.ensures.painted c.in_default.is)) c.rows_agree.ensures
+pub returns-then-records_agree : goal.returns-then-records_agree
+returns-then-records_agree c =
+    let passed = no_err c.is_err.ensures.negation c.if-is_err.false in
+    agreed_rows _ _ _ _ c.judge_given.ensures passed c.records_agree.ensures c.if-records_agree.true (c.largest_colour.ensures ∙ most_largest (c.judge_given.ensures.painted passed)) c.rows_agree.ensures

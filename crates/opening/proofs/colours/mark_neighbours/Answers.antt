@@ -1,6 +1,6 @@
 -- `opening::colours::mark_neighbours` meets its contract. The invariant: the slots of v from `at` on are behind the walk; each next place is smaller. Assumes nothing.
 use borrow.Author.Rules.{rules}
-use Rattle.opening.proofs.laws.Marks.{walked_start, walked_less, walked_step, walked_size, walked_done}
+use Rattle.opening.proofs.laws.Marks.{walked_start, walked_less, walked_step, walked_done}
 use Rattle.opening.proofs.colours.mark_neighbours.Goals as goal
 
 pub loop-at-init : goal.loop-at-init
@@ -11,9 +11,6 @@ loop-at-smaller c = search (walked_less, rules)
 
 pub loop-at-preserved : goal.loop-at-preserved
 loop-at-preserved c = search (walked_step, rules)
-
-pub shape_of-flags : goal.shape_of-flags
-shape_of-flags c = search (walked_size, rules)
 
 pub returns : goal.returns
 returns c = search (walked_done, rules)

@@ -1,17 +1,14 @@
-use Rattle.opening.proofs.laws.Judging.{sifted_ready, judged_refused, judged_coloured}
+use Rattle.std.proofs.lemmas.Result.{err_from_is_err_and}
+use Rattle.opening.proofs.laws.Judging.{judged_refused, judged_coloured}
 use Rattle.opening.proofs.judge.judge_late.Goals as goal
 
-pub sift-faces-requires-clause-plain : goal.sift-faces-requires-clause-plain
-sift-faces-requires-clause-plain c = c.requires.plain
-
-pub sift-faces-requires-clause-filled : goal.sift-faces-requires-clause-filled
-sift-faces-requires-clause-filled c = c.requires.filled
-
-pub returns-in-Refused : goal.returns-in-Refused
-returns-in-Refused c = search judged_refused
+pub returns-in_err-sift : goal.returns-in_err-sift
+returns-in_err-sift c =
+    let p = err_from_is_err_and c.from_residual.result c.from_residual.ensures.1 in
+    rw (p.1, p.2) (judged_refused c.sift.ensures c.in_err-sift.was c.requires.clear)
 
 pub colour_all-requires-clause-ready : goal.colour_all-requires-clause-ready
-colour_all-requires-clause-ready c = search sifted_ready
+colour_all-requires-clause-ready c = c.sift.ensures.ready c.in_ok-sift.was
 
 pub returns : goal.returns
-returns c = search judged_coloured
+returns c = judged_coloured c.sift.ensures c.in_ok-sift.was c.colour_all.ensures c.refused_at.ensures

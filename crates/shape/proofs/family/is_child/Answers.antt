@@ -1,8 +1,7 @@
-use mathlib.Core.Path.{sym, ap, ◌∙◌}
+use mathlib.Core.Path.{ap, ◌∙◌}
 use Prim.Native.Nat.{ℕ, ◌+◌}
-use native.Mathlib.Omega.{arith}
 use Rattle.split.specs.Split.{left, right}
-use Rattle.shape.proofs.laws.Family.{decides_false, sided_here, sided_none}
+use Rattle.shape.proofs.laws.Family.{sided_here}
 use Rattle.shape.proofs.family.is_child.Goals as goal
 
 pub returns-then-r-first : goal.returns-then-r-first
@@ -10,6 +9,3 @@ returns-then-r-first c = sided_here left (c.if-r-first.true ∙ c.wide-first.ens
 
 pub returns-then-r-first-2 : goal.returns-then-r-first-2
 returns-then-r-first-2 c = sided_here right (c.if-r-first-2.true ∙ ap (λ (x : ℕ). x + 1) c.wide-first.ensures) c.second.ensures c.same_row-then-r-first-2.ensures
-
-pub returns : goal.returns
-returns c = decides_false (sided_none (λ e. c.if-r-first.false (e ∙ sym c.wide-first.ensures)) (λ e. c.if-r-first-2.false (omega arith)))

@@ -1,43 +1,46 @@
+use mathlib.Core.Path.{refl, sym, ◌∙◌}
+use mathlib.Core.Bool.{true≢false}
 use native.Mathlib.Omega.{arith}
-use Rattle.sound.proofs.laws.Deciding.{decides_false, decides_same, refused, granted}
-use Rattle.shape.proofs.laws.Fitted.{fitting_points, fitting_records, fitting_inside}
+use borrow.Author.Rules.{rules}
+use borrow.Author.Tests.{tests}
+use Rattle.tables.specs.Layout.{no_float}
+use Rattle.sound.proofs.laws.Deciding.{decides_false}
+use Rattle.shape.proofs.laws.Fitted.{fitting_points, fitting_records, fitting_inside, unused_last}
+use Rattle.shape.proofs.laws.Zero.{decides_each}
 use Rattle.shape.proofs.unused.unused_zero.Goals as goal
+use Rattle.shape.proofs.unused.unused_zero.Goals.{then-all_from, else-all_from}
 
 pub overflow_mul-c : goal.overflow_mul-c
 overflow_mul-c c = omega (arith, fitting_inside c.requires)
 
-pub floats_zero-requires : goal.floats_zero-requires
-floats_zero-requires c = fitting_points c.requires
+pub all_from-requires-clause-from_in_bounds : goal.all_from-requires-clause-from_in_bounds
+all_from-requires-clause-from_in_bounds c = fitting_points c.requires
 
-pub returns-then-not-floats_zero : goal.returns-then-not-floats_zero
-returns-then-not-floats_zero c = decides_false (λ u. refused c.floats_zero.ensures c.if-not-floats_zero.true-raw u.points)
+pub overflow_mul-c-then-all_from : goal.overflow_mul-c-then-all_from
+overflow_mul-c-then-all_from c = omega (arith, fitting_inside c.requires)
 
-pub overflow_mul-c-2 : goal.overflow_mul-c-2
-overflow_mul-c-2 c = omega (arith, fitting_inside c.requires)
+pub all_from-requires-then-all_from-clause-from_in_bounds : goal.all_from-requires-then-all_from-clause-from_in_bounds
+all_from-requires-then-all_from-clause-from_in_bounds c = fitting_records c.requires
 
-pub numbers_zero-requires : goal.numbers_zero-requires
-numbers_zero-requires c = fitting_records c.requires
+pub overflow_mul-c-then-all_from-2 : goal.overflow_mul-c-then-all_from-2
+overflow_mul-c-then-all_from-2 c = omega (arith, fitting_inside c.requires)
 
-pub returns-then-not-numbers_zero : goal.returns-then-not-numbers_zero
-returns-then-not-numbers_zero c = decides_false (λ u. refused c.numbers_zero.ensures c.if-not-numbers_zero.true-raw u.records)
+pub all_from-requires-then-all_from-2-clause-from_in_bounds : goal.all_from-requires-then-all_from-2-clause-from_in_bounds
+all_from-requires-then-all_from-2-clause-from_in_bounds c = (fitting_inside c.requires).rows_fit
 
-pub overflow_mul-c-3 : goal.overflow_mul-c-3
-overflow_mul-c-3 c = omega (arith, fitting_inside c.requires)
+pub returns-then-all_from-2 : goal.returns-then-all_from-2
+returns-then-all_from-2 c = elim c.if-all_from.branch [
+  | then-all_from w ↦
+      unused_last c.requires
+      ((decides_each no_float c.args.points.now _ c.all_from.ensures (λ x h. h.yes refl) (λ x h. h.no refl)).yes w.if-all_from.true)
+      ((decides_each 0 c.args.records.now _ w.all_from-then-all_from.ensures (λ x h. search (rules, tests)) (λ x h. search (rules, tests))).yes (sym w.value-is ∙ c.if-all_from-2.true))
+      (decides_each 0 c.args.rows.now _ c.all_from-then-all_from-2.ensures (λ x h. search (rules, tests)) (λ x h. search (rules, tests)))
+  | else-all_from w ↦ absurd (true≢false (sym c.if-all_from-2.true ∙ w.value-is ∙ w.if-all_from.false))
+]
 
-pub numbers_zero-requires-2 : goal.numbers_zero-requires-2
-numbers_zero-requires-2 c = (fitting_inside c.requires).rows_fit
-
-pub returns : goal.returns
-returns c = let f = c.requires in
-    let i = fitting_inside f in
-    decides_same
-    (λ e. record {
-      points_fit = fitting_points f;
-      records_fit = fitting_records f;
-      rows_fit = i.rows_fit;
-      points = granted c.floats_zero.ensures c.if-not-floats_zero.false-raw;
-      records = granted c.numbers_zero.ensures c.if-not-numbers_zero.false-raw;
-      rows = e;
-    })
-    (λ u. u.rows)
-    c.numbers_zero-2.ensures
+pub returns-else-all_from-2 : goal.returns-else-all_from-2
+returns-else-all_from-2 c = rw c.if-all_from-2.false
+    (elim c.if-all_from.branch [
+      | then-all_from w ↦ decides_false (λ u. (decides_each 0 c.args.records.now _ w.all_from-then-all_from.ensures (λ x h. search (rules, tests)) (λ x h. search (rules, tests))).no (sym w.value-is ∙ c.if-all_from-2.false) u.records)
+      | else-all_from w ↦ decides_false (λ u. (decides_each no_float c.args.points.now _ c.all_from.ensures (λ x h. h.yes refl) (λ x h. h.no refl)).no w.if-all_from.false u.points)
+    ])

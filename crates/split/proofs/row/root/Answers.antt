@@ -1,5 +1,0 @@
-use mathlib.Core.Path.{refl}
-use Rattle.split.proofs.row.root.Goals as goal
-
-pub returns : goal.returns
-returns c = refl

@@ -1,6 +1,0 @@
-use borrow.Author.Rules.{rules}
-use Rattle.text.proofs.laws.Putting.{three_put}
-use Rattle.text.proofs.put.put_three.Goals as goal
-
-pub returns : goal.returns
-returns c = search (three_put, rules)
