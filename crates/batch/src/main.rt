@@ -1,13 +1,18 @@
 // Many inputs in one process, for tests/compare. An input comes as its length, four bytes with the lowest first, and 65,536 bytes of which so many count; its answer goes out after its own length.
 #![tactic(auto)]
 
+ghost use Rattle.std.specs.Prelude.{◌<◌};
+
 use programs::input::read_full;
 use std::io;
 use std::io::Read;
 use text::SIZE;
 
 // A length by its three lowest bytes, the lowest first.
-fn length([a, b, c, _]: [u8; 4]) -> usize {
+fn length(head: [u8; 4]) -> usize
+    ensures { result < 16777216 }
+{
+    let [a, b, c, _] = head;
     u32::from_le_bytes([a, b, c, 0]) as usize
 }
 

@@ -42,7 +42,8 @@ fn refine_in(
     call::refine_sound(points, records, rows, scratch, c, marks)
 }
 
-// The same in memory of N numbers.
+// The same in memory of N numbers. It has a frame of its own, so that no caller's frame holds the memory.
+#[inline(never)]
 fn refine_with<const N: usize>(
     points: &mut [f64],
     records: &mut [u32],

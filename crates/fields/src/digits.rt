@@ -5,14 +5,15 @@ ghost use Rattle.std.specs.Float.{binary64};
 ghost use Rattle.std.specs.Float.Ieee.{of_bits, to_bits};
 ghost use Rattle.fields.specs.Digits.{worth_of, value_of, number_of, hex_of, Narrow};
 
-// What a byte is worth as a digit, if it is one.
+// What a byte is worth as a digit, if it is one. Inlined, and widened before it is made smaller, so that no Option is left of it in `spells`.
 #[tactic(auto, unfolding(crate::specs::Digits::worth_of))]
+#[inline(always)]
 fn worth(x: u8) -> Option<u64>
     ensures { result ≡ worth_of x }
 {
     match x {
-        b'0'..=b'9' => Some(u64::from(x - b'0')),
-        b'a'..=b'f' => Some(u64::from(x - b'a' + 10)),
+        b'0'..=b'9' => Some(u64::from(x) - u64::from(b'0')),
+        b'a'..=b'f' => Some(u64::from(x) - u64::from(b'a') + 10),
         _ => None,
     }
 }

@@ -17,7 +17,9 @@ pub enum Line {
     Refused(usize),
 }
 
+// Not inlined, nor is `element`: the loops over fields and digits are faster in a function of their own.
 #[tactic(auto, unfolding(crate::specs::Line::vertex_of))]
+#[inline(never)]
 fn vertex(line: &[u8]) -> Option<Line>
     ensures { result ≡ vertex_of (hex_of (field_of line.now 1)) (hex_of (field_of line.now 2)) (hex_of (field_of line.now 3)) }
 {
@@ -28,6 +30,7 @@ fn vertex(line: &[u8]) -> Option<Line>
 }
 
 #[tactic(auto, unfolding(crate::specs::Line::element_of))]
+#[inline(never)]
 fn element(line: &[u8]) -> Option<Line>
     ensures { result ≡ element_of (number_of (field_of line.now 1)) (number_of (field_of line.now 2)) (number_of (field_of line.now 3)) (number_of (field_of line.now 4)) }
 {

@@ -1,5 +1,7 @@
 // Leaves by their rows.
 
+ghost use Rattle.std.specs.Prelude.{◌≤◌, length};
+
 use programs::lent::Tables;
 use split::row::Row;
 use tables::entry::Entry;
@@ -13,6 +15,8 @@ pub fn is_at_corner(r: Row) -> bool {
 // Lists the wanted leaves in row order, as many as there is room for.
 pub fn list<'a, F: Fn(Row) -> bool>(t: &Tables, wanted: F, marks: &'a mut [u32]) -> &'a [u32]
     requires { F.IsAlwaysCallable wanted }
+    ensures rows { length result.now ≤ 100000 }
+    ensures room { length result.now ≤ length marks.old }
 {
     let mut count = 0;
     for k in 0..t.counts.rows.min(MOST_ROWS) {

@@ -3,3 +3,4 @@ pub mod Cells
 pub mod Causes
 pub mod Verdict
 pub mod First
+pub mod Reason

@@ -5,26 +5,29 @@ mod coordinates;
 mod elements;
 pub mod grid;
 mod lengths;
+pub mod reason;
 mod search;
 
 ghost use Rattle.std.specs.Prelude.{◌≡◌, Ok};
 ghost use Rattle.intake.specs.Cells.{cells};
+ghost use Rattle.intake.specs.Reason.{decided};
 ghost use Rattle.intake.specs.Verdict.{at, fitting, plain};
 
 use crate::coordinates::first_unusable;
 use crate::elements::{first_double, first_missing};
 use crate::grid::{CORNERS, Grid};
 use crate::lengths::{input_wrong, lent_wrong, too_many};
+use crate::reason::Reason;
 use tables::layout::POINT;
 use tables::refusal::{Cause, Refusal};
 
-// Refused for this cause at the place found, else the verdict of what comes next.
-pub fn verdict_at(
+// Refused for this reason at the place found, else the verdict of what comes next.
+pub fn verdict_at<R: Reason>(
     found: Option<usize>,
-    cause: Cause,
-    next: Result<(), Refusal>,
-) -> Result<(), Refusal>
-    ensures { result ≡ at found cause next }
+    cause: R,
+    next: Result<(), R::Refusal>,
+) -> Result<(), R::Refusal>
+    ensures { result ≡ decided (R.refusal cause) found next }
 {
     match found {
         Some(place) => Err(cause.at(place)),
@@ -33,6 +36,7 @@ pub fn verdict_at(
 }
 
 // Refused for this cause at the place found, if there is one.
+#[tactic(auto, using(crate::proofs::laws::Verdicts::decided_at))]
 pub fn refused_at(found: Option<usize>, cause: Cause) -> Result<(), Refusal>
     ensures { result ≡ at found cause (Ok tt) }
 {

@@ -64,7 +64,8 @@ pub fn judge_given(input: &Input, index: &mut [u32], paint: &mut Paint) -> Resul
     judge_late(&mesh, index, paint)
 }
 
-// The same with an index of its own, of N numbers.
+// The same with an index of its own, of N numbers. It has a frame of its own, so that no caller's frame holds the index.
+#[inline(never)]
 fn judge_within<const N: usize>(input: &Input, paint: &mut Paint) -> Result<(), Refusal>
     requires room { links_at + 4 * input.now.grid.count ≤ N }
     requires most { N ≤ links_at + 4 * most_rows }

@@ -7,6 +7,11 @@ use std::fmt;
 pub struct Numbers<'a>(pub &'a [u32]);
 
 impl fmt::Display for Numbers<'_> {
+    ghost use Rattle.std.specs.Prelude.{Some};
+    ghost use Rattle.programs.specs.Shown.{numbers_text};
+
+    ghost output = { λ t. Some (numbers_text t.0.now) };
+
     fn fmt<W: fmt::Write>(&self, f: &mut fmt::Formatter<W>) -> fmt::Result {
         for n in self.0 {
             write!(f, " {n}")?;
@@ -20,6 +25,11 @@ impl fmt::Display for Numbers<'_> {
 pub struct Bits(pub f64);
 
 impl fmt::Display for Bits {
+    ghost use Rattle.std.specs.Prelude.{Some};
+    ghost use Rattle.programs.specs.Shown.{bits_text};
+
+    ghost output = { λ x. Some (bits_text x.0) };
+
     fn fmt<W: fmt::Write>(&self, f: &mut fmt::Formatter<W>) -> fmt::Result {
         if self.0.is_nan() {
             return write!(f, "nan");
@@ -33,6 +43,11 @@ impl fmt::Display for Bits {
 pub struct Coordinates<'a>(pub &'a [f64]);
 
 impl fmt::Display for Coordinates<'_> {
+    ghost use Rattle.std.specs.Prelude.{Some};
+    ghost use Rattle.programs.specs.Shown.{coordinates_text};
+
+    ghost output = { λ t. Some (coordinates_text t.0.now) };
+
     fn fmt<W: fmt::Write>(&self, f: &mut fmt::Formatter<W>) -> fmt::Result {
         for x in self.0 {
             write!(f, " {}", Bits(*x))?;
@@ -46,6 +61,11 @@ impl fmt::Display for Coordinates<'_> {
 pub struct YesNo(pub bool);
 
 impl fmt::Display for YesNo {
+    ghost use Rattle.std.specs.Prelude.{Some};
+    ghost use Rattle.programs.specs.Shown.{yes_no_text};
+
+    ghost output = { λ y. Some (yes_no_text y.0) };
+
     fn fmt<W: fmt::Write>(&self, f: &mut fmt::Formatter<W>) -> fmt::Result {
         write!(f, "{}", if self.0 { "yes" } else { "no" })
     }

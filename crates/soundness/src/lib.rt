@@ -28,7 +28,8 @@ fn decide(points: &[f64], records: &[u32], rows: &[u32], c: Counts, work: &mut [
     }
 }
 
-// The same in memory of N numbers.
+// The same in memory of N numbers. It has a frame of its own, so that no caller's frame holds the memory.
+#[inline(never)]
 fn decide_with<const N: usize>(points: &[f64], records: &[u32], rows: &[u32], c: Counts) -> bool
     requires enough { memory_for c.rows ≤ N }
     requires fits { N ≤ 420000 }

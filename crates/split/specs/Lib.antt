@@ -4,3 +4,4 @@ pub mod Row
 pub mod Midpoint
 pub mod Exact
 pub mod Magnitude
+pub mod Shown

@@ -33,6 +33,11 @@ pub struct Ends {
 
 // v0 to v3, tag, parent, child, depth.
 impl fmt::Display for Row {
+    ghost use Rattle.std.specs.Prelude.{Some};
+    ghost use Rattle.split.specs.Shown.{row_text};
+
+    ghost output = { λ r. Some (row_text r) };
+
     fn fmt<W: fmt::Write>(&self, f: &mut fmt::Formatter<W>) -> fmt::Result {
         write!(
             f,
@@ -43,6 +48,11 @@ impl fmt::Display for Row {
 }
 
 impl fmt::Display for Ends {
+    ghost use Rattle.std.specs.Prelude.{Some};
+    ghost use Rattle.split.specs.Shown.{ends_text};
+
+    ghost output = { λ e. Some (ends_text e) };
+
     fn fmt<W: fmt::Write>(&self, f: &mut fmt::Formatter<W>) -> fmt::Result {
         write!(f, "{} {}", self.small, self.large)
     }

@@ -3,3 +3,4 @@ pub mod Mesh
 pub mod Refusal
 pub mod Report
 pub mod Steps
+pub mod Shown

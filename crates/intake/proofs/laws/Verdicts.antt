@@ -1,8 +1,10 @@
 -- A row of tests, each asked by a call of its own: where one refuses its refusal stands, and where it passes the rest decides.
-use Rattle.std.proofs.Common.{◌≡◌, sym, ◌∙◌, ℕ, Option, Some, None, Ok, Err}
+use Rattle.std.proofs.Common.{◌≡◌, refl, sym, ◌∙◌, ℕ, Option, Some, None, Ok, Err}
 use Rattle.std.specs.Bool.{⊤}
 use Rattle.tables.specs.declared.refusal.Cause.{Cause}
 use Rattle.tables.specs.declared.refusal.Refusal.{Refusal}
+use Rattle.tables.specs.Refusal.{refusal_at}
+use Rattle.intake.specs.Reason.{decided}
 use Rattle.intake.specs.Verdict.{Verdict, at}
 
 -- f is what the call found, g what it looked for, r the verdict on f alone
@@ -20,3 +22,8 @@ module _ (cause : Cause) (next : Verdict) {f g : Option ℕ} {r : Verdict} (foun
       go : (f : Option ℕ) → Ok x ≡ at f cause (Ok tt) → s ≡ at f cause next
       go (Some p) y = cc
       go None y = z
+
+-- refused for a cause: the verdict of the row of tests
+pub decided_at : (found : Option ℕ) (cause : Cause) (next : Verdict) → decided (refusal_at cause) found next ≡ at found cause next
+decided_at (Some p) cause next = refl
+decided_at None cause next = refl
